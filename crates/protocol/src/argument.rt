@@ -80,7 +80,10 @@ impl<Fd> Argument<Fd> {
 }
 
 // MISMATCH carries 255 where the numbers differ, else the place of an argument of another type.
-pub fn check_for_signature<Fd>(signature: &[ArgumentType], args: &[Argument<Fd>]) -> Result<(), Refusal>
+pub fn check_for_signature<Fd>(
+    signature: &[ArgumentType],
+    args: &[Argument<Fd>],
+) -> Result<(), Refusal>
     ensures { λ r. ⌜ Checked (now (signature .entry)) (now (args .entry)) r ⌝ }
 {
     if signature.len() != args.len() {

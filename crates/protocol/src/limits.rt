@@ -11,4 +11,9 @@ pub struct Limits {
     pub incoming: usize,
 }
 
-pub const LIMITS: Limits = Limits { descriptors: 28, bytes: 4096, arguments: 20, incoming: 4096 };
+pub const LIMITS: Limits = Limits {
+    descriptors: 28,
+    bytes: 4096,
+    arguments: 20,
+    incoming: 4096,
+};

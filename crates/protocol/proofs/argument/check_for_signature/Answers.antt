@@ -15,6 +15,6 @@ pub loop-place-again : need.loop-place-again
 loop-place-again g c =
     let here = getD (c .args .signature .now) (c .loop-place .place) type.Int in
     below-more _ _ (c .loop-place .inv)
-      (ap (λ a. sameType (typeOf a) here) (sym (getD-read (c .args .args .now) (c .loop-place .place) (c .index-args-place .result) (omega arith) (c .index-args-place .is) (Int (pos 0))))
-       ∙ ap (λ (t : ArgumentType). sameType t here) (sym (c .get-type .ensures))
-       ∙ sym (c .if-not-same-type .ensures tt))
+    (ap (λ a. sameType (typeOf a) here) (sym (getD-read (c .args .args .now) (c .loop-place .place) (c .index-args-place .result) (omega arith) (c .index-args-place .is) (Int (pos 0))))
+    ∙ ap (λ (t : ArgumentType). sameType t here) (sym (c .get-type .ensures))
+    ∙ sym (c .if-not-same-type .ensures tt))

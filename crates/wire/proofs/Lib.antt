@@ -1,0 +1,10 @@
+mod Appends
+mod AtPlace
+mod Copies
+mod Filling
+mod Laying
+mod Parsing
+mod Placing
+mod Texts
+mod Walk
+mod Writing
