@@ -18,11 +18,10 @@ use Rattle.std.specs.declared.result.Result.the-variants.{Ok, Err}
 use Rattle.protocol.specs.declared.argument.Argument.{Argument}
 use Rattle.protocol.specs.declared.refusal.Refusal.{Refusal}
 use Rattle.protocol.specs.declared.refusal.Refusal.the-variants.{NotOpen}
-use Rattle.protocol.specs.declared.fd.OwnedFd.{OwnedFd}
 use Rattle.protocol.specs.declared.fd.RawFd.{RawFd}
-use Rattle.book.specs.Files.{Files, Enters, fileOf, numbers, opened}
+use Rattle.book.specs.Files.{Files, fileOf}
 use Rattle.wire.specs.Records.{carriedBy, numbersIn}
-use Rattle.wire.specs.Write.{Copied, dupFailure}
+use Rattle.wire.specs.Write.{dupFailure}
 
 module _ (fs : Files) (free : ℕ) (n : RawFd) (ns : List RawFd) where
   pub dup-not-open : fileOf fs (n .0) ≡ None → dupFailure fs free (n ∷ ns) ≡ Some 9
@@ -43,17 +42,6 @@ module _ (fs : Files) (free : ℕ) (n : RawFd) (ns : List RawFd) where
     ]
     | inr s ↦ absurd (let e = sym (cond-false _ _ _ s) ∙ h in let y : _≡_ {A = ℕ} 0 1 = cc in omega arith)
   ]
-
--- what stays open can still be duplicated
-pub dup-kept : (fs gs : Files) (free : ℕ) (ns : List RawFd) → ((k x : ℕ) → fileOf fs k ≡ Some x → fileOf gs k ≡ Some x) → dupFailure fs free ns ≡ None → dupFailure gs free ns ≡ None
-dup-kept fs gs free [] kept h = refl
-dup-kept fs gs free (n ∷ ns) kept h =
-    let s = dup-split fs free n ns h in
-    dup-more gs free n ns (still (fileOf fs (n .0)) refl (s .0)) (λ z. omega arith) ∙ dup-kept fs gs (free - 1) ns kept (s .2)
-  where
-    still : (o : Option ℕ) → fileOf fs (n .0) ≡ o → isSome o ≡ true → isSome (fileOf gs (n .0)) ≡ true
-    still None e h = absurd (true≢false (sym h))
-    still (Some x) e h = ap isSome (kept (n .0) x e)
 
 -- one record on: a descriptor, or none
 module _ {X : Type 0} (xs : List (Argument X)) (i : ℕ) (d : Argument X) (h : i < length xs) where

@@ -2,9 +2,15 @@ mod Appends
 mod AtPlace
 mod Copies
 mod Filling
+mod Fitting
+mod Giving
 mod Laying
 mod Parsing
 mod Placing
+mod Reading
+mod Regaining
+mod Showing
 mod Texts
 mod Walk
+mod Working
 mod Writing

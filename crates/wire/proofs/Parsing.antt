@@ -18,13 +18,9 @@ use Rattle.protocol.specs.declared.fd.OwnedFd.{OwnedFd}
 use Rattle.protocol.specs.declared.header.Header.{Header}
 use Rattle.protocol.specs.declared.refusal.Refusal.{Refusal}
 use Rattle.protocol.specs.declared.refusal.Refusal.the-variants.{MissingData, Malformed, MissingFd, Small}
-use Rattle.wire.specs.Values.{Value}
-use Rattle.wire.specs.Read.{Parsed, parse, parsed, values, sizeAt, fdCount}
-use Rattle.wire.specs.Answers.{Answers, Filled, headerAt}
-
--- an answer of `parse` that is a refusal
-pub refused : (p : Result (Parsed OwnedFd) Refusal) (why : Refusal) (cursor : ℕ) (rs : List (Argument OwnedFd)) → p ≡ Err why → Answers p cursor rs (Err why) cursor rs
-refused p why cursor rs e = subst (λ (q : Result (Parsed OwnedFd) Refusal). Answers q cursor rs (Err why) cursor rs) (sym e) (refl, refl, refl)
+use Rattle.wire.specs.Values.{Value, descriptors}
+use Rattle.wire.specs.Read.{Parsed, parse, parsed, values, wordAt, opcodeAt, sizeAt, fdCount}
+use Rattle.wire.specs.Answers.{Filled, Reading, headerAt}
 
 module _ {X : Type 0} (room : ℕ) (ts : List ArgumentType) (raw : List ℕ) (xs : List X) where
   pub no-header : length raw < 8 → parse room ts raw xs ≡ Err MissingData
@@ -51,6 +47,9 @@ module _ {X : Type 0} (room : ℕ) (ts : List ArgumentType) (raw : List ℕ) (xs
   pub after-checks : Whole → fdCount ts ≤ length xs → length ts ≤ room → parse room ts raw xs ≡ parsed raw xs (values ts (drop 8 (take (sizeAt raw) raw)) xs)
   after-checks w f h = after-size w ∙ cond-false _ _ _ (le-ltb _ _ f) ∙ cond-false _ _ _ (le-ltb _ _ h)
 
+abbrev pub given-as : {X : Type 0} → List ℕ → List X → List (Value X) → Parsed X
+given-as raw xs vs = record { message = record { sender = wordAt raw; opcode = opcodeAt raw; args = vs }; size = sizeAt raw; rest = drop (sizeAt raw) raw; left = drop (length (descriptors vs)) xs }
+
 none-since : {A : Type 0} (o : Option A) → false ≡ isSome o → o ≡ None
 none-since None e = refl
 none-since (Some x) e = absurd (true≢false (sym e))
@@ -59,8 +58,12 @@ pub arguments-bad : {X : Type 0} (ts : List ArgumentType) (raw : List ℕ) (xs :
     → false ≡ isSome (values ts (drop 8 (take (sizeAt raw) raw)) xs) → p ≡ Err Malformed
 arguments-bad ts raw xs p e h = e ∙ ap (parsed raw xs) (none-since _ h)
 
+-- the size in the header that the code reads
+pub size-is : (h : Header) (raw : List ℕ) → h ≡ headerAt raw → h .size ≡ sizeAt raw
+size-is h raw e = ap (λ (x : Header). x .size) e
+
 -- an answer of `parse` that is a message
 pub accepted : (o : Option (List (Value OwnedFd))) (raw : List ℕ) (xs : List OwnedFd) (p : Result (Parsed OwnedFd) Refusal) (cursor cursor′ : ℕ) (rs rs′ : List (Argument OwnedFd)) (r : Header × RefT (List ℕ))
-    → p ≡ parsed raw xs o → Filled o cursor rs cursor′ rs′ → r .0 ≡ headerAt raw → r .1 .now ≡ drop (sizeAt raw) raw → Answers p cursor rs (Ok r) cursor′ rs′
+    → p ≡ parsed raw xs o → Filled o cursor rs cursor′ rs′ → r .0 ≡ headerAt raw → r .1 .now ≡ drop (sizeAt raw) raw → Reading p cursor rs r cursor′ rs′
 accepted None raw xs p cursor cursor′ rs rs′ r e f h t = absurd f
-accepted (Some vs) raw xs p cursor cursor′ rs rs′ r e f h t = subst (λ (q : Result (Parsed OwnedFd) Refusal). Answers q cursor rs (Ok r) cursor′ rs′) (sym e) (h, t, f)
+accepted (Some vs) raw xs p cursor cursor′ rs rs′ r e f h t = record { found = given-as raw xs vs; is = e; header = h; tail = t; filled = f }

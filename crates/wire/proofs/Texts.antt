@@ -1,5 +1,5 @@
 -- Records whose text is good take as many bytes as their values.
-use mathlib.Core.Path.{_≡_, refl, sym, ap, _∙_}
+use mathlib.Core.Path.{_≡_, refl, sym, ap, subst, _∙_}
 use mathlib.Core.Bool.{Bool, true, false, cond, _&&_}
 use mathlib.Core.List.{List, [], _∷_, _++_, map}
 use Prim.Native.Nat.{ℕ, suc, _+_, _-_, _≤_, _<_}
@@ -15,6 +15,7 @@ use Rattle.wire.specs.Values.{Value, descriptors, carried}
 use Rattle.wire.specs.Frame.{field, fields, block}
 use Rattle.wire.specs.Records.{blockLength, bytesOf, inside, fieldLength, fieldsLength, valueOf, carriedBy, numbersIn}
 use Rattle.wire.specs.Write.{goodText, goodTexts}
+use Rattle.wire.specs.Laws.{AllCarry, Carries}
 use Rattle.wire.specs.Place.{lay}
 use Rattle.wire.proofs.Walk.{length-block}
 use Rattle.wire.proofs.Laying.{lay-append}
@@ -83,3 +84,6 @@ module _ {X : Type 0} (bs : List ℕ) (xs : List (Argument X)) (i : ℕ) (d : Ar
       ap (λ ys. lay at (fields (map (valueOf bs) ys)) p) (drop-more xs i d h)
       ∙ lay-append at (field (valueOf bs (getD xs i d))) (fields (map (valueOf bs) (drop (i + 1) xs))) p
       ∙ ap (λ n. lay (at + n) (fields (map (valueOf bs) (drop (i + 1) xs))) (lay at (field (valueOf bs (getD xs i d))) p)) (good-length bs (getD xs i d) g)
+
+  pub carry-more : Carries (valueOf bs (getD xs i d)) → AllCarry (map (valueOf bs) (drop (i + 1) xs)) → AllCarry (map (valueOf bs) (drop i xs))
+  carry-more c r = subst (λ ys. AllCarry (map (valueOf bs) ys)) (sym (drop-more xs i d h)) (c, r)

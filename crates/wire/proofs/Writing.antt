@@ -8,7 +8,7 @@ use native.Mathlib.Omega.{arith}
 use lib.Dec.{ltb}
 use lib.ListN.{length, drop}
 use borrow.Rule.Slice.PartMut.{putMid}
-use Rattle.std.proofs.shelf.Tests.{cond-true, cond-false, lt-ltb, le-ltb, ltb-false, or-left, or-right, or-from, cases-bool}
+use Rattle.std.proofs.shelf.Tests.{cond-true, cond-false, lt-ltb, le-ltb, ltb-false, or-left, or-right, or-from, or-parts, cases-bool}
 use Rattle.std.specs.declared.option.Option.{Option}
 use Rattle.std.specs.declared.option.Option.the-variants.{Some, None}
 use Rattle.std.specs.declared.result.Result.{Result}
@@ -68,3 +68,41 @@ frame-laid m n p q r s h e a b c =
     ∙ ap (lay 8 (fields (m .args))) (b′ ∙ ap (λ k. lay 4 (known (word (k * 65536 + m .opcode))) q) e ∙ ap (lay 4 (known (word (sizeOf m * 65536 + m .opcode)))) a′)
     ∙ sym (lay-append 4 (known (word (sizeOf m * 65536 + m .opcode))) (fields (m .args)) (lay 0 (known (word (m .sender))) p))
     ∙ sym (lay-append 0 (known (word (m .sender))) (known (word (sizeOf m * 65536 + m .opcode)) ++ fields (m .args)) p)
+
+-- a message whose checks are passed
+pub record Admitted (g : Bool) (m : Message RawFd) (payload places : ℕ) (fs : Files) (n : ℕ) : Type 0 where
+  pub good : g ≡ true
+  pub small : sizeOf m ≤ largest
+  pub can : dupFailure fs (numbers - opened fs) (descriptors (m .args)) ≡ None
+  pub bytes : sizeOf m ≤ payload
+  pub fds : length (descriptors (m .args)) ≤ places
+  pub size : n ≡ sizeOf m
+
+failure-got : (o : Option ℕ) (r : Result ℕ Refusal) (n : ℕ) → unlessFailed o r ≡ Ok n → (o ≡ None) × (r ≡ Ok n)
+failure-got None r n e = (refl, e)
+failure-got (Some code) r n e = absurd (let z : _≡_ {A = ℕ} 0 1 = cc in omega arith)
+
+-- a test that a value comes past
+past : (b : Bool) (why : Refusal) (r : Result ℕ Refusal) (n : ℕ) → cond b (Err why) r ≡ Ok n → (b ≡ false) × (r ≡ Ok n)
+past true why r n e = absurd (let z : _≡_ {A = ℕ} 0 1 = cc in omega arith)
+past false why r n e = (refl, e)
+
+good-got : (b : Bool) (why : Refusal) (r : Result ℕ Refusal) (n : ℕ) → cond b r (Err why) ≡ Ok n → (b ≡ true) × (r ≡ Ok n)
+good-got true why r n e = (refl, e)
+good-got false why r n e = absurd (let z : _≡_ {A = ℕ} 0 1 = cc in omega arith)
+
+pub admitted : (g : Bool) (m : Message RawFd) (payload places : ℕ) (fs : Files) (n : ℕ) → writeAnswer g m payload places fs ≡ Ok n → Admitted g m payload places fs n
+admitted g m payload places fs n e =
+    let a = good-got g BadText _ n e in
+    let b = past (ltb largest (sizeOf m)) Oversize _ n (a .1) in
+    let c = failure-got (dupFailure fs (numbers - opened fs) (descriptors (m .args))) _ n (b .1) in
+    let d = past (ltb payload (sizeOf m) || ltb places (length (descriptors (m .args)))) Short (Ok (sizeOf m)) n (c .1) in
+    let o = or-parts (ltb payload (sizeOf m)) (ltb places (length (descriptors (m .args)))) (d .0) in
+    record {
+      good = a .0;
+      small = ltb-false largest (sizeOf m) (b .0);
+      can = c .0;
+      bytes = ltb-false payload (sizeOf m) (o .0);
+      fds = ltb-false places (length (descriptors (m .args))) (o .1);
+      size = (let q = d .1 in cc);
+    }

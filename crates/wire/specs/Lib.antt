@@ -4,5 +4,8 @@ pub mod Read
 pub mod Records
 pub mod View
 pub mod Answers
+pub mod Laws
 pub mod Place
+pub mod ReadBack
+pub mod Worked
 pub mod Write

@@ -62,18 +62,18 @@ writeAnswer good m payload places fs =
     (Ok (sizeOf m)))))
     (Err BadText)
 
--- the duplicates of numbers, one after another: each stands for its number's file, and was not open before
-abbrev pub Copied : List RawFd → Files → List OwnedFd → Files → Type 0
-Copied [] fs [] fs′ = fs′ ≡ fs
-Copied [] fs (m ∷ ms) fs′ = ⊥
-Copied (n ∷ ns) fs [] fs′ = ⊥
-Copied (n ∷ ns) fs (m ∷ ms) fs′ =
-    (file : ℕ) × (fileOf fs (n .0) ≡ Some file) × Enters file (m .0) fs (set fs (m .0) (Some file)) × Copied ns (set fs (m .0) (Some file)) ms fs′
+-- the duplicates of numbers, one after another: each stands for the file that its number stands for in the book `named`, and was not open before
+abbrev pub Copied : Files → List RawFd → Files → List OwnedFd → Files → Type 0
+Copied named [] fs [] fs′ = fs′ ≡ fs
+Copied named [] fs (m ∷ ms) fs′ = ⊥
+Copied named (n ∷ ns) fs [] fs′ = ⊥
+Copied named (n ∷ ns) fs (m ∷ ms) fs′ =
+    (file : ℕ) × (fileOf named (n .0) ≡ Some file) × Enters file (m .0) fs (set fs (m .0) (Some file)) × Copied named ns (set fs (m .0) (Some file)) ms fs′
 
--- the duplicates stand first among the descriptor places
+-- the duplicates stand first among the descriptor places; a number names the file that it stands for as the call begins
 pub record Placed (ns : List RawFd) (places : List OwnedFd) (fs : Files) (places′ : List OwnedFd) (fs′ : Files) : Type 0 where
   pub duplicates : List OwnedFd
-  pub copied : Copied ns fs duplicates fs′
+  pub copied : Copied fs ns fs duplicates fs′
   pub placed : places′ ≡ duplicates ++ drop (length duplicates) places
 
 -- the frame stands first in the payload

@@ -7,7 +7,8 @@ ghost use Rattle.std.specs.Options.{isSome, mapped};
 ghost use Rattle.std.specs.declared.option.Option.the-variants.{Some, None};
 ghost use Rattle.wire.specs.Read.{wordAt, noZero, whole, inner, first, one, values, fdOf, fdCount};
 ghost use Rattle.wire.specs.Read.{parse as parsing};
-ghost use Rattle.wire.specs.Answers.{Answers, Filled, headerAt};
+ghost use Rattle.wire.specs.Answers.{Answers, Checked, Filled, Passed, Reading, Shows, headerAt};
+ghost use Rattle.wire.specs.Laws.{GivesFrames, ReadsFrames};
 ghost use Rattle.wire.specs.Read.{text as textIn};
 ghost use Rattle.wire.specs.Records.{recordOf, textAt};
 use crate::field::block_len;
@@ -190,6 +191,41 @@ fn fd_count(signature: &[ArgumentType]) -> usize
     count
 }
 
+// The checks of a frame, in their order: the header where it passes them all.
+fn check_frame(
+    raw: &[u8],
+    signature: &[ArgumentType],
+    fds: &[OwnedFd],
+    cursor: usize,
+    room: usize,
+) -> Result<Header, Refusal>
+    ensures checked { λ r. ⌜ Checked (parsing room (now (signature .entry)) (now (raw .entry)) (drop cursor (now (fds .entry)))) room (now (signature .entry)) (now (raw .entry)) (drop cursor (now (fds .entry))) r ⌝ }
+    ensures reads { λ _. ⌜ ReadsFrames room (now (signature .entry)) (now (raw .entry)) (drop cursor (now (fds .entry))) ⌝ }
+    ensures gives { λ _. ⌜ GivesFrames room (now (signature .entry)) (now (raw .entry)) (drop cursor (now (fds .entry))) ⌝ }
+{
+    if raw.len() < 8 {
+        return Err(Refusal::MissingData);
+    }
+    let header = header_of(raw);
+    let size = header.size as usize;
+    if size < 8 {
+        return Err(Refusal::Malformed);
+    }
+    if size > raw.len() {
+        return Err(Refusal::MissingData);
+    }
+    if fds.len().saturating_sub(cursor) < fd_count(signature) {
+        return Err(Refusal::MissingFd);
+    }
+    if room < signature.len() {
+        return Err(Refusal::Small);
+    }
+    if !arguments_fit(&raw[0..size], signature, fds, cursor) {
+        return Err(Refusal::Malformed);
+    }
+    Ok(header)
+}
+
 // The header and the unused tail of a frame that has passed every check, with its records filled.
 fn take_message<'a>(
     raw: &'a [u8],
@@ -199,12 +235,9 @@ fn take_message<'a>(
     cursor: &mut usize,
     records: &mut [Argument<OwnedFd>],
 ) -> (Header, &'a [u8])
-    requires long { ⌜ (8 ≤ header .size) × (header .size ≤ length (now raw)) ⌝ }
-    requires room { ⌜ length (now signature) ≤ length (now records) ⌝ }
-    requires fit { ⌜ isSome (values (now signature) (drop 8 (take (header .size) (now raw))) (drop (now cursor) (now fds))) ≡ true ⌝ }
-    ensures head { λ r. ⌜ r .0 ≡ header ⌝ }
-    ensures tail { λ r. ⌜ now (r .1) ≡ drop (header .size) (now (raw .entry)) ⌝ }
-    ensures filled { λ _. ⌜ Filled (values (now (signature .entry)) (drop 8 (take (header .size) (now (raw .entry)))) (drop (now (cursor .entry)) (now (fds .entry)))) (now (cursor .entry)) (now (records .entry)) (now (cursor .exit)) (now (records .exit)) ⌝ }
+    requires { ⌜ Passed (parsing (length (now records)) (now signature) (now raw) (drop (now cursor) (now fds))) (length (now records)) (now signature) (now raw) (drop (now cursor) (now fds)) header ⌝ }
+    ensures answer { λ r. ⌜ Reading (parsing (length (now (records .entry))) (now (signature .entry)) (now (raw .entry)) (drop (now (cursor .entry)) (now (fds .entry)))) (now (cursor .entry)) (now (records .entry)) r (now (cursor .exit)) (now (records .exit)) ⌝ }
+    ensures shows { λ _. ⌜ Shows (parsing (length (now (records .entry))) (now (signature .entry)) (now (raw .entry)) (drop (now (cursor .entry)) (now (fds .entry)))) (now (raw .entry)) (now (records .exit)) ⌝ }
 {
     let size = header.size as usize;
     fill_arguments(&raw[0..size], signature, fds, cursor, records);
@@ -219,27 +252,13 @@ pub fn parse_message<'a>(
     cursor: &mut usize,
     records: &mut [Argument<OwnedFd>],
 ) -> Result<(Header, &'a [u8]), Refusal>
-    ensures { λ r. ⌜ Answers (parsing (length (now (records .entry))) (now (signature .entry)) (now (raw .entry)) (drop (now (cursor .entry)) (now (fds .entry)))) (now (cursor .entry)) (now (records .entry)) r (now (cursor .exit)) (now (records .exit)) ⌝ }
+    ensures answer { λ r. ⌜ Answers (parsing (length (now (records .entry))) (now (signature .entry)) (now (raw .entry)) (drop (now (cursor .entry)) (now (fds .entry)))) (now (cursor .entry)) (now (records .entry)) r (now (cursor .exit)) (now (records .exit)) ⌝ }
+    ensures shows { λ _. ⌜ Shows (parsing (length (now (records .entry))) (now (signature .entry)) (now (raw .entry)) (drop (now (cursor .entry)) (now (fds .entry)))) (now (raw .entry)) (now (records .exit)) ⌝ }
+    ensures reads { λ _. ⌜ ReadsFrames (length (now (records .entry))) (now (signature .entry)) (now (raw .entry)) (drop (now (cursor .entry)) (now (fds .entry))) ⌝ }
+    ensures gives { λ _. ⌜ GivesFrames (length (now (records .entry))) (now (signature .entry)) (now (raw .entry)) (drop (now (cursor .entry)) (now (fds .entry))) ⌝ }
 {
-    if raw.len() < 8 {
-        return Err(Refusal::MissingData);
+    match check_frame(raw, signature, fds, *cursor, records.len()) {
+        Ok(header) => Ok(take_message(raw, header, signature, fds, cursor, records)),
+        Err(why) => Err(why),
     }
-    let header = header_of(raw);
-    let size = header.size as usize;
-    if size < 8 {
-        return Err(Refusal::Malformed);
-    }
-    if size > raw.len() {
-        return Err(Refusal::MissingData);
-    }
-    if fds.len().saturating_sub(*cursor) < fd_count(signature) {
-        return Err(Refusal::MissingFd);
-    }
-    if records.len() < signature.len() {
-        return Err(Refusal::Small);
-    }
-    if !arguments_fit(&raw[0..size], signature, fds, *cursor) {
-        return Err(Refusal::Malformed);
-    }
-    Ok(take_message(raw, header, signature, fds, cursor, records))
 }

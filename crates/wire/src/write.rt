@@ -1,7 +1,7 @@
 ghost use mathlib.Core.Path.{_≡_};
 ghost use mathlib.Core.Bool.{cond, true};
 ghost use mathlib.Core.List.{[], _∷_, _++_, map};
-ghost use Prim.Native.Nat.{_+_, _-_, _≤_, _<_};
+ghost use Prim.Native.Nat.{_+_, _-_, _^_, _≤_, _<_};
 ghost use lib.Dec.{ltb};
 ghost use lib.ListN.{length};
 ghost use borrow.Rule.Slice.PartMut.{putMid};
@@ -12,9 +12,11 @@ ghost use Rattle.book.specs.Files.{numbers, opened};
 ghost use Rattle.book.specs.View.{files};
 ghost use Rattle.wire.specs.Values.{descriptors};
 ghost use Rattle.wire.specs.Frame.{block, field, fields, frame, overlay, sizeOf, word};
+ghost use Rattle.wire.specs.Laws.{AllCarry, Carries};
 ghost use Rattle.wire.specs.Place.{lay};
+ghost use Rattle.wire.specs.ReadBack.{ReadBack};
 ghost use Rattle.wire.specs.Records.{blockLength, fieldLength, fieldsLength, numbersIn, valueOf};
-ghost use Rattle.wire.specs.Write.{After, Placed, dupFailure, goodText, goodTexts, largest, messageOf, unlessFailed, writeAnswer};
+ghost use Rattle.wire.specs.Write.{After, Placed, Stored, dupFailure, goodText, goodTexts, largest, messageOf, unlessFailed, writeAnswer};
 use crate::field::fd_of;
 use crate::field::field_len;
 use crate::parse::no_zero;
@@ -120,7 +122,8 @@ fn put_argument(payload: &mut [u8], at: usize, argument: &Argument<RawFd>, text:
     requires good { ⌜ goodText (now text) (now argument) ≡ true ⌝ }
     requires small { ⌜ fieldLength (now argument) ≤ largest ⌝ }
     requires room { ⌜ at + fieldLength (now argument) ≤ length (now payload) ⌝ }
-    ensures { λ _. ⌜ now (payload .exit) ≡ lay at (field (valueOf (now (text .entry)) (now (argument .entry)))) (now (payload .entry)) ⌝ }
+    ensures laid { λ _. ⌜ now (payload .exit) ≡ lay at (field (valueOf (now (text .entry)) (now (argument .entry)))) (now (payload .entry)) ⌝ }
+    ensures carries { λ _. ⌜ Carries (valueOf (now (text .entry)) (now (argument .entry))) ⌝ }
 {
     match argument {
         Argument::Int(n) | Argument::Fixed(n) => put_word(payload, at, n.cast_unsigned()),
@@ -144,7 +147,8 @@ fn put_arguments(payload: &mut [u8], args: &[Argument<RawFd>], text: &[u8])
     requires good { ⌜ goodTexts (now text) (now args) ≡ true ⌝ }
     requires small { ⌜ 8 + fieldsLength (now args) ≤ largest ⌝ }
     requires room { ⌜ 8 + fieldsLength (now args) ≤ length (now payload) ⌝ }
-    ensures { λ _. ⌜ now (payload .exit) ≡ lay 8 (fields (map (valueOf (now (text .entry))) (now (args .entry)))) (now (payload .entry)) ⌝ }
+    ensures laid { λ _. ⌜ now (payload .exit) ≡ lay 8 (fields (map (valueOf (now (text .entry))) (now (args .entry)))) (now (payload .entry)) ⌝ }
+    ensures carries { λ _. ⌜ AllCarry (map (valueOf (now (text .entry))) (now (args .entry))) ⌝ }
 {
     let mut at = 8;
     for argument in args {
@@ -158,7 +162,8 @@ fn put_frame(payload: &mut [u8], msg: &Message<RawFd>, size: usize)
     requires sized { ⌜ size ≡ sizeOf (messageOf (now msg)) ⌝ }
     requires small { ⌜ size ≤ largest ⌝ }
     requires room { ⌜ size ≤ length (now payload) ⌝ }
-    ensures { λ _. ⌜ now (payload .exit) ≡ overlay (frame (messageOf (now (msg .entry)))) (now (payload .entry)) ⌝ }
+    ensures laid { λ _. ⌜ now (payload .exit) ≡ overlay (frame (messageOf (now (msg .entry)))) (now (payload .entry)) ⌝ }
+    ensures carries { λ _. ⌜ now (msg .entry) .sender < 2 ^ 32 ⌝ ∗ ⌜ now (msg .entry) .opcode < 2 ^ 16 ⌝ ∗ ⌜ AllCarry (messageOf (now (msg .entry)) .args) ⌝ }
 {
     put_word(payload, 0, msg.sender);
     put_word(payload, 4, (size as u32) * 65536 + msg.opcode as u32);
@@ -185,6 +190,39 @@ fn put_duplicates(args: &[Argument<RawFd>], places: &mut [OwnedFd], book: &mut B
     }
 }
 
+// The checks of a message, in their order: the size of its frame where it passes them all.
+fn check_message(
+    msg: &Message<RawFd>,
+    payload_len: usize,
+    places_len: usize,
+    book: &Book,
+) -> Result<usize, Refusal>
+    ensures { λ r. ⌜ r ≡ writeAnswer (goodTexts (now (now (msg .entry) .text)) (now (now (msg .entry) .args))) (messageOf (now (msg .entry))) «payload_len» «places_len» (files (now (book .entry))) ⌝ }
+{
+    let size = measure(msg.args, msg.text)?;
+    let count = check_duplicates(msg.args, book)?;
+    if payload_len < size || places_len < count {
+        return Err(Refusal::Short);
+    }
+    Ok(size)
+}
+
+// The frame and the duplicates of a message that has passed every check.
+fn put_message(
+    msg: &Message<RawFd>,
+    size: usize,
+    payload: &mut [u8],
+    places: &mut [OwnedFd],
+    book: &mut Book,
+)
+    requires { ⌜ writeAnswer (goodTexts (now (now msg .text)) (now (now msg .args))) (messageOf (now msg)) (length (now payload)) (length (now places)) (files (now book)) ≡ Ok size ⌝ }
+    ensures stored { λ _. ⌜ Stored (messageOf (now (msg .entry))) (now (payload .entry)) (now (places .entry)) (files (now (book .entry))) (now (payload .exit)) (now (places .exit)) (files (now (book .exit))) ⌝ }
+    ensures readback { λ _. ⌜ ReadBack (Ok size) (now (now (msg .entry) .args)) (messageOf (now (msg .entry))) (now (payload .exit)) (now (places .exit)) (files (now (book .entry))) (files (now (book .exit))) ⌝ }
+{
+    put_frame(payload, msg, size);
+    put_duplicates(msg.args, places, book);
+}
+
 // Writes the frame of a message first into the payload, and the duplicates of its descriptors first into the places.
 pub fn write_to_buffers(
     msg: &Message<RawFd>,
@@ -194,13 +232,13 @@ pub fn write_to_buffers(
 ) -> Result<usize, Refusal>
     ensures answer { λ r. ⌜ r ≡ writeAnswer (goodTexts (now (now (msg .entry) .text)) (now (now (msg .entry) .args))) (messageOf (now (msg .entry))) (length (now (payload .entry))) (length (now (places .entry))) (files (now (book .entry))) ⌝ }
     ensures after { λ r. ⌜ After r (messageOf (now (msg .entry))) (now (payload .entry)) (now (places .entry)) (files (now (book .entry))) (now (payload .exit)) (now (places .exit)) (files (now (book .exit))) ⌝ }
+    ensures readback { λ r. ⌜ ReadBack r (now (now (msg .entry) .args)) (messageOf (now (msg .entry))) (now (payload .exit)) (now (places .exit)) (files (now (book .entry))) (files (now (book .exit))) ⌝ }
 {
-    let size = measure(msg.args, msg.text)?;
-    let count = check_duplicates(msg.args, book)?;
-    if payload.len() < size || places.len() < count {
-        return Err(Refusal::Short);
+    match check_message(msg, payload.len(), places.len(), book) {
+        Ok(size) => {
+            put_message(msg, size, payload, places, book);
+            Ok(size)
+        }
+        Err(why) => Err(why),
     }
-    put_frame(payload, msg, size);
-    put_duplicates(msg.args, places, book);
-    Ok(size)
 }

@@ -28,9 +28,9 @@ index-places-count c =
 
 pub unreachable-requires : need.unreachable-requires
 unreachable-requires c κs =
-    placing-refused (numbersIn (c .args .args .now)) (files (c .args .book .now)) (c .args .places .now) (c .in-Some .fd) (numbersIn (drop (c .loop-argument .argument-index + 1) (c .args .args .now))) (files (c .loop-argument .book)) (files (c .duplicate .last .self)) (c .loop-argument .count) (c .loop-argument .places) (c .in-Err .field-0)
+    placing-refused (numbersIn (c .args .args .now)) (files (c .args .book .now)) (c .args .places .now) (c .in-Some .fd) (numbersIn (drop (c .loop-argument .argument-index + 1) (c .args .args .now))) (files (c .loop-argument .book)) (c .loop-argument .count) (c .loop-argument .places)
     (placing-same _ _ _ _ _ (files (c .loop-argument .book)) (c .loop-argument .count) (c .loop-argument .places) (numbers-here (c .args .args .now) (c .loop-argument .argument-index) (Int (pos 0)) (omega arith) (c .in-Some .fd) (c .in-Some .ensures tt)) (c .loop-argument .inv))
-    (c .in-Err .ensures tt .duplicates)
+    (files (c .duplicate .last .self)) (c .in-Err .field-0) (c .in-Err .ensures tt .duplicates)
 
 -- where the ways meet
 moved : (all : List RawFd) (fs : Files) (old : List OwnedFd) (ns : List RawFd) (a b : Book) (i j : ℕ) (x y : List OwnedFd) → b ≡ a → j ≡ i → y ≡ x → Placing all fs old ns (files a) i x → Placing all fs old ns (files b) j y
@@ -43,9 +43,9 @@ loop-argument-again c = elim (c .match-fd-of .came) [
       (let m = numbers-here (c .args .args .now) (c .loop-argument .argument-index) (Int (pos 0)) (omega arith) (w .in-Some .fd) (w .in-Some .ensures tt) in
       let k = ap length m in
       moved _ _ _ _ _ _ _ _ _ _ (w .book-is) (w .count-is) (w .places-is)
-      (placing-more (numbersIn (c .args .args .now)) (files (c .args .book .now)) (c .args .places .now) (w .in-Some .fd) (numbersIn (drop (c .loop-argument .argument-index + 1) (c .args .args .now))) (files (c .loop-argument .book)) (files (w .duplicate .last .self)) (c .loop-argument .count) (c .loop-argument .places) (w .in-Ok .new)
+      (placing-more (numbersIn (c .args .args .now)) (files (c .args .book .now)) (c .args .places .now) (w .in-Some .fd) (numbersIn (drop (c .loop-argument .argument-index + 1) (c .args .args .now))) (files (c .loop-argument .book)) (c .loop-argument .count) (c .loop-argument .places)
       (placing-same _ _ _ _ _ (files (c .loop-argument .book)) (c .loop-argument .count) (c .loop-argument .places) m (c .loop-argument .inv))
-      (w .in-Ok .ensures tt .duplicates) (files-length (c .loop-argument .book)) (omega (arith, c .loop-argument .inv .rest, c .pre .room))))
+      (files (w .duplicate .last .self)) (w .in-Ok .new) (w .in-Ok .ensures tt .duplicates) (files-length (c .loop-argument .book)) (omega (arith, c .loop-argument .inv .rest, c .pre .room))))
   | in-rest w ↦
       moved _ _ _ _ _ _ _ _ _ _ (w .book-is) (w .count-is) (w .places-is)
       (placing-same _ _ _ _ _ (files (c .loop-argument .book)) (c .loop-argument .count) (c .loop-argument .places) (numbers-none (c .args .args .now) (c .loop-argument .argument-index) (Int (pos 0)) (omega arith) (w .in-rest .ensures tt)) (c .loop-argument .inv))

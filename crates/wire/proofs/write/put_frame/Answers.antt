@@ -1,3 +1,4 @@
+use borrow.Author.Needs.{needs}
 use mathlib.Core.Path.{sym, ap, _∙_}
 use native.Mathlib.Omega.{arith}
 use Rattle.wire.specs.Write.{messageOf}
@@ -11,6 +12,9 @@ put-arguments-requires c κs =
     record { good = c .pre .good; small = omega (arith, c .pre .sized, c .pre .small); room = omega (arith, c .pre .sized, c .pre .room) }
 
 pub returns : need.returns
-returns c =
-    frame-laid (messageOf (c .args .msg .now)) (c .args .size) (c .args .payload .now) (c .put-word .last .payload) (c .put-word-2 .last .payload) _
-    (omega (arith, c .pre .sized, c .pre .room)) (c .pre .sized) (c .put-word .ensures) (c .put-word-2 .ensures) (c .put-arguments .ensures)
+returns c = record {
+  laid =
+      frame-laid (messageOf (c .args .msg .now)) (c .args .size) (c .args .payload .now) (c .put-word .last .payload) (c .put-word-2 .last .payload) _
+      (omega (arith, c .pre .sized, c .pre .room)) (c .pre .sized) (c .put-word .ensures) (c .put-word-2 .ensures) (c .put-arguments .ensures .laid);
+  carries = (search needs, (search needs, c .put-arguments .ensures .carries));
+}
