@@ -1,0 +1,3 @@
+pub mod Captions
+pub mod Pictures
+pub mod Shown
