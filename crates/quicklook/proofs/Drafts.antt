@@ -3,11 +3,10 @@ use mathlib.Core.Path.{_≡_, refl, sym, ap, _∙_}
 use Prim.Native.Nat.{ℕ}
 use lib.ListN.{length, take, drop}
 use Rattle.std.proofs.shelf.Lists.{append-nil, append-assoc, take-at, drop-at}
-use Rattle.protocol.specs.declared.argument.Argument.{Argument}
 use Rattle.protocol.specs.declared.argument.Argument.the-variants as arg
 use Rattle.protocol.specs.declared.fd.RawFd.{RawFd}
 use Rattle.wire.specs.Records.{textAt, bytesOf, valueOf}
-use Rattle.wire.specs.Values.{Value, uint, string, array, descriptor}
+use Rattle.wire.specs.Values.{uint, string, array, descriptor}
 
 -- five that are put behind one another, from nothing
 pub five : {X : Type 0} (a b c d e f : List X) (v w x y z : X) → a ≡ [] → b ≡ a ++ v ∷ [] → c ≡ b ++ w ∷ [] → d ≡ c ++ x ∷ [] → e ≡ d ++ y ∷ [] → f ≡ e ++ z ∷ [] → f ≡ v ∷ w ∷ x ∷ y ∷ z ∷ []

@@ -60,12 +60,16 @@ mostRows = 256
 abbrev pub allowed : {X : Type 0} → (List X → Option (List ArgumentType)) → List Row → List X → Bool
 allowed meaning rows body = leb (length rows) mostRows && (eachReads meaning body rows && apart rows)
 
+-- what is answered is what the part of the row found means, with no row or type left out
+abbrev pub Plain : {X : Type 0} → (List X → Option (List ArgumentType)) → List Row → List X → Type 0
+Plain meaning rows body = (sender opcode : ℕ) → answer meaning rows body sender opcode ≡ fromRow (λ row. meaning (partOf body row)) (rowFor rows sender opcode)
+
 -- a source over these rows and this body, which are allowed; so it answers what the part of the row found means
 pub record Over {X : Type 0} (meaning : List X → Option (List ArgumentType)) (rows : List Row) (body : List X) (source : RowSource X) : Type 0 where
   pub kept : allowed meaning rows body ≡ true
   pub same-rows : now (source .rows) ≡ rows
   pub same-body : now (source .body) ≡ body
-  pub plain : (sender opcode : ℕ) → answer meaning rows body sender opcode ≡ fromRow (λ row. meaning (partOf body row)) (rowFor rows sender opcode)
+  pub plain : Plain meaning rows body
 
 -- what making a source answers: one over these rows and this body where they are allowed, else BADROW
 abbrev pub Made : {X : Type 0} → (List X → Option (List ArgumentType)) → List Row → List X → Result (RowSource X) Refusal → Type 0

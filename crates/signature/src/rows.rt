@@ -1,8 +1,9 @@
 ghost use mathlib.Core.Path.{_≡_};
+ghost use mathlib.Core.Bool.{true};
 ghost use denote.Ref.{now as behind};
 ghost use Rattle.std.specs.Options.{mapped};
 ghost use Rattle.signature.specs.Bound.{fewAnswer};
-ghost use Rattle.signature.specs.Rows.{rowFor, rowTypes, apart, eachReads, answer, Made};
+ghost use Rattle.signature.specs.Rows.{rowFor, rowTypes, apart, eachReads, allowed, answer, Plain, Made};
 ghost use Rattle.signature.specs.View.{typesIn};
 use crate::notation::Notation;
 use crate::source::SignatureSource;
@@ -71,6 +72,17 @@ fn all_read<E: Notation>(rows: &[Row], body: &[E]) -> bool
     true
 }
 
+// Whether rows over a body keep the rules; where they do, a row's part is read as it stands.
+fn keep_rules<E: Notation>(rows: &[Row], body: &[E]) -> bool
+    ensures rules { λ r. ⌜ r ≡ allowed (E·Notation .meaning) (now (rows .entry)) (now (body .entry)) ⌝ }
+    ensures plain { λ r. ⌜ (r ≡ true → Plain (E·Notation .meaning) (now (rows .entry)) (now (body .entry))) ⌝ }
+{
+    if rows.len() > MOST_ROWS || !all_read(rows, body) {
+        return false;
+    }
+    all_apart(rows)
+}
+
 // Rows over a body that keep the rules: `new` is the only way to have one.
 #[derive(Clone, Copy)]
 pub struct RowSource<'r, 'b, E> {
@@ -89,7 +101,7 @@ impl<'r, 'b, E: Notation> RowSource<'r, 'b, E> {
     pub fn new(rows: &'r [Row], body: &'b [E]) -> Result<RowSource<'r, 'b, E>, Refusal>
         ensures { λ r. ⌜ Made (E·Notation .meaning) (now (rows .entry)) (now (body .entry)) r ⌝ }
     {
-        if rows.len() <= MOST_ROWS && all_read(rows, body) && all_apart(rows) {
+        if keep_rules(rows, body) {
             Ok(RowSource { rows, body })
         } else {
             Err(Refusal::BadRow)

@@ -3,7 +3,6 @@ use mathlib.Core.Path.{_≡_, refl, sym, ap, _∙_}
 use mathlib.Core.List.{List, [], _∷_, _++_}
 use Prim.Native.Nat.{ℕ, suc, _+_, _<_}
 use native.Mathlib.Nat.{add-assoc, add-zero}
-use native.Mathlib.Omega.{arith}
 use lib.ListN.{length, drop, set}
 use Rattle.std.proofs.shelf.Lists.{append-assoc, append-nil, length-append, set-at, drop-more}
 use Rattle.std.specs.Options.{mapped}

@@ -1,23 +1,23 @@
 -- Laws of reading at a place of a frame.
-use mathlib.Core.Path.{_≡_, refl, sym, ap, subst, _∙_}
-use mathlib.Core.Bool.{Bool, true, false, cond}
-use mathlib.Core.List.{List, [], _∷_}
+use mathlib.Core.Path.{_≡_, sym, ap, subst, _∙_}
+use mathlib.Core.Bool.{true, false, cond}
+use mathlib.Core.List.{List}
 use Prim.Native.Nat.{ℕ, _+_, _-_, _*_, _≤_, _<_}
 use native.Mathlib.Nat.{add-zero}
 use native.Mathlib.Omega.{arith}
-use lib.Dec.{leb, eqb}
+use lib.Dec.{leb}
 use lib.ListN.{length, take, drop, getD}
-use Rattle.std.proofs.shelf.Lists.{getD-drop, getD-take, length-drop, length-take, drop-all, drop-more, drop-drop, take-take, getD-default}
+use Rattle.std.proofs.shelf.Lists.{getD-drop, getD-take, length-drop, length-take, drop-more, drop-drop, take-take, getD-default}
 use Rattle.std.proofs.shelf.Tests.{cond-true, cond-false, le-leb, lt-leb, eq-eqb, ne-eqb, leb-true, and-parts, and-left, and-right, and-from}
 use Rattle.std.specs.Options.{mapped}
-use Rattle.std.specs.declared.option.Option.{Option}
 use Rattle.std.specs.declared.option.Option.the-variants.{Some, None}
-use Rattle.wire.specs.Read.{wordAt, noZero, first, whole, inner, ended, text}
+use Rattle.wire.specs.Read.{wordAt, noZero, whole, inner, ended, text}
 use Rattle.wire.specs.Values.{null, string}
 use Rattle.wire.specs.Frame.{padding}
 use Rattle.wire.specs.Records.{bytesOf, textAt, blockLength, recordOf}
 use Rattle.protocol.specs.declared.argument.Text.{Text}
 use Rattle.protocol.specs.declared.argument.Argument.the-variants as arg
+use Rattle.wire.proofs.Outcomes.{got}
 
 pub word-drop : (bs : List ℕ) (at : ℕ) → wordAt (drop at bs) ≡ getD bs at 0 + getD bs (at + 1) 0 * 256 + getD bs (at + 2) 0 * 65536 + getD bs (at + 3) 0 * 16777216
 word-drop bs at = simp (getD-drop, add-zero)
@@ -35,11 +35,6 @@ zero-more bs i h e = ap noZero (drop-more bs i 0 h) ∙ cond-false _ _ _ (ne-eqb
 
 pub zero-here : (bs : List ℕ) (i : ℕ) → i < length bs → getD bs i 0 ≡ 0 → noZero (drop i bs) ≡ false
 zero-here bs i h e = ap noZero (drop-more bs i 0 h) ∙ cond-true _ _ _ (eq-eqb _ _ e)
-
--- what an answer that depends on a test says of the test
-pub got : {A : Type 0} (b : Bool) (n x : A) → Some n ≡ cond b (Some x) None → (b ≡ true) × (n ≡ x)
-got true n x e = (refl, cc)
-got false n x e = absurd (let z : _≡_ {A = ℕ} 0 1 = cc in omega arith)
 
 whole-bound : (bs : List ℕ) → whole bs ≡ true → 4 + (wordAt bs + padding (wordAt bs)) ≤ length bs
 whole-bound bs h = leb-true _ _ (and-parts _ _ h .1)

@@ -13,12 +13,12 @@ use Rattle.std.specs.declared.option.Option.the-variants.{Some, None}
 use Rattle.protocol.specs.declared.argument.Argument.{Argument}
 use Rattle.protocol.specs.declared.argument.ArgumentType.{ArgumentType}
 use Rattle.protocol.specs.declared.fd.OwnedFd.{OwnedFd}
-use Rattle.wire.specs.Values.{Value, carried, descriptors}
-use Rattle.wire.specs.Frame.{field, fields}
-use Rattle.wire.specs.Read.{values, before}
-use Rattle.wire.specs.Records.{recordOf, recordsOf, fieldLength, carriedBy}
+use Rattle.wire.specs.Values.{Value, descriptors}
+use Rattle.wire.specs.Frame.{fields}
+use Rattle.wire.specs.Read.{values}
+use Rattle.wire.specs.Records.{recordsOf, fieldLength, carriedBy}
 use Rattle.wire.specs.Answers.{Filled}
-use Rattle.wire.proofs.Walk.{Stepped, turn, turn-stuck}
+use Rattle.wire.proofs.Walk.{Stepped, turn}
 use Rattle.wire.proofs.Appends.{followed, followed-before, fields-push, descriptors-push, records-more}
 
 -- after i types, at a place of the frame and of the descriptors: the values read so far, and the records

@@ -1,37 +1,35 @@
 -- Whatever is read fits the frame of what it gave.
 use mathlib.Core.Path.{_≡_, refl, sym, ap, subst, _∙_}
-use mathlib.Core.Bool.{Bool, true, false, cond, _&&_}
-use mathlib.Core.List.{List, [], _∷_, _++_, append-nil}
-use mathlib.Core.Logic.{_⊎_, inl, inr, ⊎-elim}
-use Prim.Native.Nat.{ℕ, suc, _+_, _-_, _*_, _/_, _%_, _^_, _≤_, _<_}
+use mathlib.Core.Bool.{true}
+use mathlib.Core.List.{List, [], _∷_, _++_}
+use mathlib.Core.Logic.{inl, inr}
+use Prim.Native.Nat.{ℕ, _+_, _-_, _*_, _^_, _≤_, _<_}
 use native.Mathlib.Nat.{div-add-mod'}
 use native.Mathlib.Omega.{arith}
-use lib.Dec.{eqb, leb, ltb}
+use lib.Dec.{ltb}
 use lib.ListN.{length, take, drop, getD}
 use mir.Syntax.{w32}
-use mir.Val.{SFits, ofZ, toZ}
-use Rattle.std.proofs.shelf.Lists.{append-assoc, length-append, take-append-drop, drop-drop, take-take, length-take, length-drop, getD-drop, getD-take, drop-more, take-all, nil-from-length, drop-append-le, getD-past}
+use mir.Val.{toZ}
+use Rattle.std.proofs.shelf.Lists.{append-assoc, length-append, take-append-drop, drop-drop, length-take, length-drop, getD-drop, getD-take, nil-from-length, drop-append-le, getD-past}
 use Rattle.std.proofs.shelf.Signed.{ofZ-toZ}
 use mir.ValLaws.{toZ-fits}
 use lib.Seq.{take-add}
-use Rattle.std.proofs.shelf.Tests.{cases-bool, cond-true, cond-false, ltb-false, cases-lt}
+use Rattle.std.proofs.shelf.Tests.{ltb-false, cases-lt}
 use Rattle.std.specs.declared.option.Option.{Option}
 use Rattle.std.specs.declared.option.Option.the-variants.{Some, None}
-use Rattle.std.specs.declared.result.Result.{Result}
-use Rattle.std.specs.declared.result.Result.the-variants.{Ok, Err}
+use Rattle.std.specs.declared.result.Result.the-variants.{Ok}
 use Rattle.protocol.specs.declared.argument.ArgumentType.{ArgumentType}
 use Rattle.protocol.specs.declared.argument.ArgumentType.the-variants as type
-use Rattle.protocol.specs.declared.refusal.Refusal.{Refusal}
 use Rattle.protocol.specs.declared.refusal.Refusal.the-variants.{MissingData, Malformed, MissingFd, Small}
 use Rattle.protocol.specs.Types.{kind}
-use Rattle.wire.specs.Values.{Value, Message, int, uint, fixed, string, null, object, new-id, array, descriptor, carried, descriptors}
-use Rattle.wire.specs.Frame.{Fits, known, word, padding, block, field, fields, frame, frameSized, sizeOf}
-use Rattle.wire.specs.Read.{Parsed, wordAt, noZero, number, whole, inner, ended, text, first, one, then, before, values, fdCount, sizeAt, opcodeAt, parse, parsed}
-use Rattle.wire.specs.Records.{blockLength}
+use Rattle.wire.specs.Values.{Value, int, uint, fixed, object, new-id, descriptor, carried, descriptors}
+use Rattle.wire.specs.Frame.{Fits, known, word, padding, block, field, fields}
+use Rattle.wire.specs.Read.{Parsed, wordAt, number, whole, inner, text, first, one, then, before, values, fdCount, sizeAt, opcodeAt, parsed}
 use Rattle.wire.specs.Laws.{typeOfValue, Carries, Typed, Framed, GivesFrames}
 use Rattle.wire.proofs.Fitting.{block-fits, fits-join, known-fits, word-bytes}
 use Rattle.wire.proofs.Parsing.{given-as}
-use Rattle.wire.proofs.Walk.{length-block, one-within, passed, number-got, text-got, array-got, whole-fits, length-inner}
+use Rattle.wire.proofs.Walk.{length-block, one-within, number-got, text-got, array-got, whole-fits, length-inner}
+use Rattle.wire.proofs.Outcomes.{passed, past}
 
 -- each of them is a byte
 abbrev pub Bytes : List ℕ → Type 0
@@ -151,11 +149,6 @@ all-given (t ∷ ts) bs xs vs h e =
           ∙ sym (append-assoc (carried (p .0)) (descriptors (q .0)) (drop (length (descriptors (q .0))) (drop (length (carried (p .0))) xs)))
           ∙ ap (λ (x : List _). (carried (p .0) ++ descriptors (q .0)) ++ x) (drop-drop (length (descriptors (q .0))) (length (carried (p .0))) xs ∙ ap (λ (k : ℕ). drop k xs) (sym (length-append (carried (p .0)) (descriptors (q .0)))));
     })
-
--- a check that was passed
-past : {X : Type 0} (b : Bool) (why : Refusal) (x : Result (Parsed X) Refusal) (p : Parsed X) → cond b (Err why) x ≡ Ok p → (b ≡ false) × (x ≡ Ok p)
-past true why x p e = absurd (let z : _≡_ {A = ℕ} 0 1 = cc in omega arith)
-past false why x p e = (refl, e)
 
 pub parsed-got : {X : Type 0} (raw : List ℕ) (xs : List X) (o : Option (List (Value X))) (p : Parsed X) → parsed raw xs o ≡ Ok p → (vs : List (Value X)) × (o ≡ Some vs) × (given-as raw xs vs ≡ p)
 parsed-got raw xs None p e = absurd (let z : _≡_ {A = ℕ} 0 1 = cc in omega arith)

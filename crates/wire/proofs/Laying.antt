@@ -3,8 +3,7 @@ use mathlib.Core.Path.{_≡_, refl, sym, ap, _∙_}
 use mathlib.Core.List.{List, [], _∷_, _++_}
 use Prim.Native.Nat.{ℕ, zero, suc, _+_, _≤_, _<_}
 use native.Mathlib.Omega.{arith}
-use native.Mathlib.Nat.{add-assoc}
-use lib.ListN.{length, take, drop, set, replicate}
+use lib.ListN.{length, drop, set, replicate}
 use borrow.Rule.Slice.PartMut.{putMid}
 use Rattle.std.proofs.shelf.Lists.{append-assoc, length-append, length-replicate, replicate-append-replicate}
 use Rattle.std.specs.declared.option.Option.{Option}
@@ -18,10 +17,6 @@ length-overlay [] p = refl
 length-overlay (x ∷ f) [] = refl
 length-overlay (Some b ∷ f) (c ∷ p) = ap suc (length-overlay f p)
 length-overlay (None ∷ f) (c ∷ p) = ap suc (length-overlay f p)
-
-overlay-nil : (f : List (Option ℕ)) → overlay f [] ≡ []
-overlay-nil [] = refl
-overlay-nil (x ∷ f) = refl
 
 -- a part after another
 pub overlay-append : (f g : List (Option ℕ)) (p : List ℕ) → overlay (f ++ g) p ≡ overlay (replicate (length f) None ++ g) (overlay f p)

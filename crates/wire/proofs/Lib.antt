@@ -2,15 +2,16 @@ mod Appends
 mod AtPlace
 mod Copies
 mod Filling
-mod Fitting
-mod Giving
+pub mod Fitting
+pub mod Giving
 mod Laying
-mod Parsing
+mod Outcomes
+pub mod Parsing
 mod Placing
-mod Reading
-mod Regaining
+pub mod Reading
+pub mod Regaining
 mod Showing
-mod Texts
-mod Walk
+pub mod Texts
+pub mod Walk
 mod Working
 mod Writing

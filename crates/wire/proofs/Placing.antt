@@ -2,8 +2,8 @@
 use mathlib.Core.Path.{_≡_, refl, sym, ap, subst, _∙_}
 use mathlib.Core.Bool.{true}
 use mathlib.Core.List.{List, [], _∷_, _++_, append-nil}
-use mathlib.Core.Logic.{_⊎_, inl, inr}
-use Prim.Native.Nat.{ℕ, _+_, _-_, _≤_, _<_}
+use mathlib.Core.Logic.{inl, inr}
+use Prim.Native.Nat.{ℕ, _+_, _-_, _<_}
 use native.Mathlib.Omega.{arith}
 use lib.ListN.{length, drop, set}
 use Rattle.std.proofs.shelf.Lists.{append-assoc, drop-more, length-push, set-at}
@@ -11,12 +11,11 @@ use Rattle.std.proofs.shelf.Tests.{true≢false}
 use Rattle.std.specs.Options.{isSome}
 use Rattle.std.specs.declared.option.Option.{Option}
 use Rattle.std.specs.declared.option.Option.the-variants.{Some, None}
-use Rattle.std.specs.declared.result.Result.{Result}
 use Rattle.std.specs.declared.result.Result.the-variants.{Ok, Err}
 use Rattle.protocol.specs.declared.fd.OwnedFd.{OwnedFd}
 use Rattle.protocol.specs.declared.fd.RawFd.{RawFd}
 use Rattle.protocol.specs.declared.refusal.Refusal.{Refusal}
-use Rattle.book.specs.Files.{Files, Enters, Duplicates, fileOf, numbers, opened}
+use Rattle.book.specs.Files.{Files, Duplicates, fileOf, numbers, opened}
 use Rattle.book.proofs.Changes.{enters-kept, enters-opened}
 use Rattle.wire.specs.Write.{Copied, Placed, dupFailure}
 use Rattle.wire.proofs.Copies.{dup-split}

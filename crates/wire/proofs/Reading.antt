@@ -1,10 +1,9 @@
 -- Bytes that fit the frame of a well-typed message are read as that message.
 use mathlib.Core.Path.{_≡_, refl, sym, ap, subst, _∙_}
-use mathlib.Core.Bool.{Bool, true, false, cond, _&&_}
+use mathlib.Core.Bool.{true}
 use mathlib.Core.List.{List, [], _∷_, _++_, append-nil}
-use Prim.Native.Nat.{ℕ, suc, _+_, _-_, _*_, _/_, _%_, _^_, _≤_, _<_}
+use Prim.Native.Nat.{ℕ, _+_, _-_, _*_, _/_, _%_, _^_, _≤_, _<_}
 use native.Mathlib.Omega.{arith}
-use lib.Dec.{eqb, leb}
 use lib.IntN.{ℤ, pos, negsuc}
 use lib.ListN.{length, take, drop, getD}
 use mir.Syntax.{w32}
@@ -12,8 +11,7 @@ use mir.Val.{SFits, ofZ, toZ}
 use Rattle.std.proofs.shelf.Lists.{append-assoc, length-append, take-at, drop-at, getD-at, length-push}
 use Rattle.std.proofs.shelf.Signed.{toZ-ofZ}
 use Rattle.std.proofs.shelf.Tests.{cond-true, cond-false, le-leb, eq-eqb, ne-eqb, and-from}
-use Rattle.std.specs.declared.option.Option.{Option}
-use Rattle.std.specs.declared.option.Option.the-variants.{Some, None}
+use Rattle.std.specs.declared.option.Option.the-variants.{Some}
 use Rattle.std.specs.declared.result.Result.{Result}
 use Rattle.std.specs.declared.result.Result.the-variants.{Ok}
 use Rattle.protocol.specs.declared.refusal.Refusal.{Refusal}
@@ -23,9 +21,8 @@ use Rattle.protocol.specs.declared.argument.ArgumentType.the-variants as type
 use Rattle.protocol.specs.Types.{kind}
 use Rattle.wire.specs.Values.{Value, Message, int, uint, fixed, string, null, object, new-id, array, descriptor, carried, descriptors}
 use Rattle.wire.specs.Frame.{Fits, known, word, padding, block, field, fields, frame, frameSized, sizeOf}
-use Rattle.wire.specs.Read.{Parsed, wordAt, noZero, number, whole, inner, ended, text, first, one, then, before, values, fdOf, fdCount, sizeAt, opcodeAt, parse, parsed}
-use Rattle.wire.specs.Records.{blockLength}
-use Rattle.wire.specs.Laws.{typeOfValue, Carries, Typed, WellTyped, ReadsFrames}
+use Rattle.wire.specs.Read.{Parsed, wordAt, noZero, number, whole, inner, text, first, one, then, before, values, fdOf, fdCount, sizeAt, opcodeAt, parsed}
+use Rattle.wire.specs.Laws.{typeOfValue, Carries, Typed, ReadsFrames}
 use Rattle.wire.proofs.Fitting.{Blocked, fits-length, fits-known, fits-split, fits-block, word-read}
 use Rattle.wire.proofs.Parsing.{after-checks}
 use Rattle.wire.proofs.Walk.{length-block}
@@ -186,12 +183,6 @@ headed m size front f =
       bytes = s .whole ∙ ap (λ x. x ++ s .second) (fits-known (word (m .sender)) (s .first) (s .fits-first)) ∙ ap (λ x. word (m .sender) ++ x) (t .whole ∙ ap (λ x. x ++ t .second) (fits-known (word (size * 65536 + m .opcode)) (t .first) (t .fits-first)));
       fits = t .fits-second;
     }
-
-typed-length : {X : Type 0} (ts : List ArgumentType) (vs : List (Value X)) → Typed ts vs → length ts ≡ length vs
-typed-length [] [] h = refl
-typed-length [] (v ∷ vs) h = absurd h
-typed-length (t ∷ ts) [] h = absurd h
-typed-length (t ∷ ts) (v ∷ vs) h = ap suc (typed-length ts vs (h .2))
 
 abbrev answered : {X : Type 0} → ℕ → ℕ → List (Value X) → ℕ → List ℕ → List X → Result (Parsed X) Refusal
 answered s o vs n rest left = Ok (record { message = record { sender = s; opcode = o; args = vs }; size = n; rest = rest; left = left })

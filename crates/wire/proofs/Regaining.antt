@@ -1,13 +1,10 @@
 -- What was written is read back.
 use mathlib.Core.Path.{_≡_, refl, sym, ap, subst, _∙_}
-use mathlib.Core.Bool.{true}
 use mathlib.Core.List.{List, [], _∷_, _++_, map}
-use Prim.Native.Nat.{ℕ, zero, suc, _+_, _*_, _^_, _≤_, _<_}
+use Prim.Native.Nat.{ℕ, suc, _+_, _*_, _^_, _≤_, _<_}
 use native.Mathlib.Omega.{arith}
-use lib.Dec.{eqb}
-use lib.IntN.{pos}
-use lib.ListN.{length, take, drop, getD, set}
-use Rattle.std.proofs.shelf.Lists.{append-assoc, length-append, length-map, length-set, take-at}
+use lib.ListN.{length, take, drop, set}
+use Rattle.std.proofs.shelf.Lists.{length-map, length-set, take-at}
 use Rattle.std.proofs.shelf.Tests.{eqb-true}
 use Rattle.std.specs.declared.option.Option.{Option}
 use Rattle.std.specs.declared.option.Option.the-variants.{Some, None}
@@ -18,12 +15,12 @@ use Rattle.protocol.specs.declared.argument.ArgumentType.{ArgumentType}
 use Rattle.protocol.specs.declared.argument.ArgumentType.the-variants as type
 use Rattle.protocol.specs.declared.fd.OwnedFd.{OwnedFd}
 use Rattle.protocol.specs.declared.fd.RawFd.{RawFd}
-use Rattle.protocol.specs.Types.{Matching, kind, sameType, typeOf, fitsAt}
-use Rattle.book.specs.Files.{Files, Enters, fileOf, numbers}
-use Rattle.book.proofs.Changes.{enters-at, enters-kept, enters-length}
+use Rattle.protocol.specs.Types.{Matching, kind, typeOf}
+use Rattle.book.specs.Files.{Files, fileOf, numbers}
+use Rattle.book.proofs.Changes.{enters-at, enters-kept}
 use Rattle.wire.specs.Values.{Value, Message, int, uint, fixed, string, null, object, new-id, array, descriptor, carried, descriptors, renamed}
 use Rattle.wire.specs.Frame.{Fits, field, fields, frame, known, overlay, sizeOf, word}
-use Rattle.wire.specs.Laws.{typeOfValue, Carries, AllCarry, Typed, WellTyped}
+use Rattle.wire.specs.Laws.{typeOfValue, Carries, AllCarry, Typed}
 use Rattle.wire.specs.ReadBack.{Regained}
 use Rattle.wire.specs.Records.{valueOf}
 use Rattle.wire.specs.Write.{Copied, Placed, largest}

@@ -1,33 +1,32 @@
 -- The records of values that were read show these values in the frame.
 use mathlib.Core.Path.{_≡_, refl, sym, ap, subst, _∙_}
-use mathlib.Core.Bool.{Bool, true, false, cond}
+use mathlib.Core.Bool.{true}
 use mathlib.Core.List.{List, [], _∷_, _++_, append-nil, map}
-use mathlib.Core.Logic.{_⊎_, inl, inr}
-use Prim.Native.Nat.{ℕ, suc, _+_, _-_, _≤_, _<_}
+use mathlib.Core.Logic.{inl, inr}
+use Prim.Native.Nat.{ℕ, _+_, _≤_}
 use native.Mathlib.Omega.{arith}
-use lib.Dec.{leb}
 use lib.ListN.{length, take, drop}
 use mir.Syntax.{w32}
 use mir.Val.{toZ}
-use Rattle.std.proofs.shelf.Lists.{append-assoc, drop-drop, length-append, length-drop, length-push, take-at, take-take}
+use Rattle.std.proofs.shelf.Lists.{drop-drop, length-append, length-drop, take-at, take-take}
 use Rattle.std.proofs.shelf.Tests.{cond-true, le-leb}
 use Rattle.std.specs.declared.option.Option.{Option}
 use Rattle.std.specs.declared.option.Option.the-variants.{Some, None}
 use Rattle.std.specs.declared.result.Result.{Result}
-use Rattle.std.specs.declared.result.Result.the-variants.{Ok, Err}
 use Rattle.protocol.specs.declared.argument.Argument.{Argument}
 use Rattle.protocol.specs.declared.argument.Argument.the-variants as arg
 use Rattle.protocol.specs.declared.argument.ArgumentType.{ArgumentType}
 use Rattle.protocol.specs.declared.argument.ArgumentType.the-variants as type
 use Rattle.protocol.specs.declared.fd.OwnedFd.{OwnedFd}
 use Rattle.protocol.specs.declared.refusal.Refusal.{Refusal}
-use Rattle.wire.specs.Values.{Value, int, uint, fixed, string, null, object, new-id, array, descriptor, carried}
-use Rattle.wire.specs.Frame.{field, padding}
-use Rattle.wire.specs.Read.{Parsed, wordAt, number, whole, inner, text, one, then, before, values, sizeAt, parsed}
+use Rattle.wire.specs.Values.{Value, int, uint, fixed, string, object, new-id, array, descriptor, carried}
+use Rattle.wire.specs.Frame.{field}
+use Rattle.wire.specs.Read.{Parsed, wordAt, number, whole, inner, text, one, before, values, sizeAt, parsed}
 use Rattle.wire.specs.Records.{bytesOf, textAt, blockLength, recordOf, recordsOf, valueIn}
 use Rattle.wire.specs.Answers.{Filled, Shows}
 use Rattle.wire.proofs.Appends.{length-records}
-use Rattle.wire.proofs.Walk.{passed, number-got, text-got, array-got, whole-fits, length-inner}
+use Rattle.wire.proofs.Walk.{number-got, text-got, array-got, whole-fits, length-inner}
+use Rattle.wire.proofs.Outcomes.{passed}
 use Rattle.wire.proofs.Parsing.{given-as}
 use Rattle.wire.proofs.Giving.{then-got, before-got}
 

@@ -1,18 +1,17 @@
 -- Records whose text is good take as many bytes as their values.
 use mathlib.Core.Path.{_≡_, refl, sym, ap, subst, _∙_}
-use mathlib.Core.Bool.{Bool, true, false, cond, _&&_}
+use mathlib.Core.Bool.{true, false, _&&_}
 use mathlib.Core.List.{List, [], _∷_, _++_, map}
-use Prim.Native.Nat.{ℕ, suc, _+_, _-_, _≤_, _<_}
+use Prim.Native.Nat.{ℕ, _+_, _<_}
 use native.Mathlib.Omega.{arith}
-use lib.Dec.{leb}
-use lib.ListN.{length, take, drop, getD}
+use lib.ListN.{length, drop, getD}
 use Rattle.std.proofs.shelf.Lists.{length-append, length-take, length-drop, drop-more}
 use Rattle.std.proofs.shelf.Tests.{and-parts, and-left, leb-true}
 use Rattle.protocol.specs.declared.argument.Argument.{Argument}
 use Rattle.protocol.specs.declared.argument.Argument.the-variants as arg
 use Rattle.protocol.specs.declared.argument.Text.{Text}
-use Rattle.wire.specs.Values.{Value, descriptors, carried}
-use Rattle.wire.specs.Frame.{field, fields, block}
+use Rattle.wire.specs.Values.{descriptors, carried}
+use Rattle.wire.specs.Frame.{field, fields}
 use Rattle.wire.specs.Records.{blockLength, bytesOf, inside, fieldLength, fieldsLength, valueOf, carriedBy, numbersIn}
 use Rattle.wire.specs.Write.{goodText, goodTexts}
 use Rattle.wire.specs.Laws.{AllCarry, Carries}
@@ -73,9 +72,6 @@ module _ {X : Type 0} (bs : List ℕ) (xs : List (Argument X)) (i : ℕ) (d : Ar
 
   pub length-more : fieldsLength (drop i xs) ≡ fieldLength (getD xs i d) + fieldsLength (drop (i + 1) xs)
   length-more = ap fieldsLength (drop-more xs i d h)
-
-  pub numbers-more : numbersIn (drop i xs) ≡ carriedBy (getD xs i d) ++ numbersIn (drop (i + 1) xs)
-  numbers-more = ap numbersIn (drop-more xs i d h)
 
   -- writing what is left is writing this one, and then the rest behind it
   pub laid-more : (at : ℕ) (p : List ℕ) → goodText bs (getD xs i d) ≡ true

@@ -1,17 +1,16 @@
 -- One step of reading the arguments of a frame, one after another.
 use mathlib.Core.Path.{_≡_, refl, sym, ap, subst, _∙_}
-use mathlib.Core.Bool.{Bool, true, false, cond}
+use mathlib.Core.Bool.{true, cond}
 use mathlib.Core.List.{List, [], _∷_, _++_}
 use mathlib.Core.Logic.{_⊎_, inl, inr}
-use Prim.Native.Nat.{ℕ, suc, _+_, _-_, _*_, _^_, _≤_, _<_, min}
-use native.Mathlib.Nat.{add-zero}
+use Prim.Native.Nat.{ℕ, suc, _+_, _-_, _^_, _≤_, _<_, min}
 use native.Mathlib.Omega.{arith}
-use lib.Dec.{leb, eqb}
-use lib.ListN.{length, take, drop, getD, replicate}
+use lib.Dec.{leb}
+use lib.ListN.{length, take, drop, getD}
 use mir.Syntax.{w32}
 use mir.Val.{toZ}
 use Rattle.std.proofs.shelf.Lists.{length-append, length-replicate, length-take, length-drop, drop-drop, drop-more, take-more, take-all}
-use Rattle.std.proofs.shelf.Tests.{cases-bool, cond-true, cond-false, leb-true, and-parts, cases-eq, eq-eqb, ne-eqb, eqb-true}
+use Rattle.std.proofs.shelf.Tests.{cond-true, cond-false, leb-true, and-parts, cases-eq, eq-eqb, ne-eqb, eqb-true}
 use Rattle.std.specs.Options.{isSome, mapped}
 use Rattle.std.specs.declared.option.Option.{Option}
 use Rattle.std.specs.declared.option.Option.the-variants.{Some, None}
@@ -20,9 +19,10 @@ use Rattle.protocol.specs.declared.argument.Argument.the-variants as arg
 use Rattle.protocol.specs.declared.argument.ArgumentType.{ArgumentType}
 use Rattle.protocol.specs.declared.argument.ArgumentType.the-variants as type
 use Rattle.wire.specs.Values.{Value, int, uint, fixed, string, null, object, new-id, array, descriptor, carried}
-use Rattle.wire.specs.Frame.{known, word, padding, block, field}
-use Rattle.wire.specs.Read.{wordAt, number, noZero, whole, inner, ended, text, first, one, then, before, values, fdOf}
+use Rattle.wire.specs.Frame.{known, block, field}
+use Rattle.wire.specs.Read.{wordAt, number, noZero, whole, inner, ended, text, one, then, before, values, fdOf}
 use Rattle.wire.specs.Records.{blockLength, fieldLength, carriedBy, recordOf}
+use Rattle.wire.proofs.Outcomes.{mapped-some, mapped-none, passed}
 
 pub length-known : (bs : List ℕ) → length (known bs) ≡ length bs
 length-known [] = refl
@@ -53,19 +53,6 @@ record-carries at (object n) = refl
 record-carries at (new-id n) = refl
 record-carries at (array bs) = refl
 record-carries at (descriptor x) = refl
-
-pub mapped-some : {A B : Type 0} (f : A → B) (o : Option A) (y : B) → Some y ≡ mapped f o → (v : A) × (o ≡ Some v) × (y ≡ f v)
-mapped-some f None y e = absurd (let z : _≡_ {A = ℕ} 0 1 = cc in omega arith)
-mapped-some f (Some v) y e = (v, refl, cc)
-
-pub mapped-none : {A B : Type 0} (f : A → B) (o : Option A) → None ≡ mapped f o → o ≡ None
-mapped-none f None e = refl
-mapped-none f (Some v) e = absurd (let z : _≡_ {A = ℕ} 0 1 = cc in omega arith)
-
--- a test that gave a value passed
-pub passed : {A : Type 0} (b : Bool) (x : Option A) (v : A) → cond b x None ≡ Some v → (b ≡ true) × (x ≡ Some v)
-passed true x v e = (refl, e)
-passed false x v e = absurd (let z : _≡_ {A = ℕ} 0 1 = cc in omega arith)
 
 pub number-got : {X : Type 0} (f : ℕ → Value X) (bs : List ℕ) (v : Value X) → number f bs ≡ Some v → (4 ≤ length bs) × (v ≡ f (wordAt bs))
 number-got f bs v e = let p = passed (leb 4 (length bs)) (Some (f (wordAt bs))) v e in (leb-true _ _ (p .0), let q = p .1 in cc)

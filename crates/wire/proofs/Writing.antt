@@ -1,27 +1,27 @@
 -- What `writeAnswer` is, check by check, and what the code knows after each.
-use mathlib.Core.Path.{_≡_, refl, sym, ap, subst, _∙_}
+use mathlib.Core.Path.{_≡_, refl, sym, ap, _∙_}
 use mathlib.Core.Bool.{Bool, true, false, cond, _||_}
-use mathlib.Core.List.{List, [], _∷_, _++_}
+use mathlib.Core.List.{List, _++_}
 use mathlib.Core.Logic.{_⊎_, inl, inr, ⊎-elim}
 use Prim.Native.Nat.{ℕ, _+_, _-_, _*_, _≤_, _<_}
 use native.Mathlib.Omega.{arith}
 use lib.Dec.{ltb}
-use lib.ListN.{length, drop}
+use lib.ListN.{length}
 use borrow.Rule.Slice.PartMut.{putMid}
 use Rattle.std.proofs.shelf.Tests.{cond-true, cond-false, lt-ltb, le-ltb, ltb-false, or-left, or-right, or-from, or-parts, cases-bool}
 use Rattle.std.specs.declared.option.Option.{Option}
 use Rattle.std.specs.declared.option.Option.the-variants.{Some, None}
 use Rattle.std.specs.declared.result.Result.{Result}
 use Rattle.std.specs.declared.result.Result.the-variants.{Ok, Err}
-use Rattle.protocol.specs.declared.fd.OwnedFd.{OwnedFd}
 use Rattle.protocol.specs.declared.fd.RawFd.{RawFd}
 use Rattle.protocol.specs.declared.refusal.Refusal.{Refusal}
-use Rattle.protocol.specs.declared.refusal.Refusal.the-variants.{BadText, Oversize, DupFailed, Short}
+use Rattle.protocol.specs.declared.refusal.Refusal.the-variants.{BadText, Oversize, Short}
 use Rattle.book.specs.Files.{Files, numbers, opened}
 use Rattle.wire.specs.Values.{Message, descriptors}
 use Rattle.wire.specs.Frame.{known, word, fields, frame, overlay, sizeOf}
 use Rattle.wire.specs.Place.{lay}
-use Rattle.wire.specs.Write.{After, Placed, Stored, dupFailure, largest, unlessFailed, writeAnswer}
+use Rattle.wire.specs.Write.{dupFailure, largest, unlessFailed, writeAnswer}
+use Rattle.wire.proofs.Outcomes.{past, past-not}
 use Rattle.wire.proofs.Laying.{lay-append, lay-known, length-lay}
 
 pub measured : (g : Bool) (s n : ℕ) → Ok n ≡ cond g (cond (ltb largest s) (Err Oversize) (Ok s)) (Err BadText) → (g ≡ true) × (s ≤ largest) × (n ≡ s)
@@ -82,18 +82,9 @@ failure-got : (o : Option ℕ) (r : Result ℕ Refusal) (n : ℕ) → unlessFail
 failure-got None r n e = (refl, e)
 failure-got (Some code) r n e = absurd (let z : _≡_ {A = ℕ} 0 1 = cc in omega arith)
 
--- a test that a value comes past
-past : (b : Bool) (why : Refusal) (r : Result ℕ Refusal) (n : ℕ) → cond b (Err why) r ≡ Ok n → (b ≡ false) × (r ≡ Ok n)
-past true why r n e = absurd (let z : _≡_ {A = ℕ} 0 1 = cc in omega arith)
-past false why r n e = (refl, e)
-
-good-got : (b : Bool) (why : Refusal) (r : Result ℕ Refusal) (n : ℕ) → cond b r (Err why) ≡ Ok n → (b ≡ true) × (r ≡ Ok n)
-good-got true why r n e = (refl, e)
-good-got false why r n e = absurd (let z : _≡_ {A = ℕ} 0 1 = cc in omega arith)
-
 pub admitted : (g : Bool) (m : Message RawFd) (payload places : ℕ) (fs : Files) (n : ℕ) → writeAnswer g m payload places fs ≡ Ok n → Admitted g m payload places fs n
 admitted g m payload places fs n e =
-    let a = good-got g BadText _ n e in
+    let a = past-not g BadText _ n e in
     let b = past (ltb largest (sizeOf m)) Oversize _ n (a .1) in
     let c = failure-got (dupFailure fs (numbers - opened fs) (descriptors (m .args))) _ n (b .1) in
     let d = past (ltb payload (sizeOf m) || ltb places (length (descriptors (m .args)))) Short (Ok (sizeOf m)) n (c .1) in

@@ -4,9 +4,9 @@
 -- multiple of 4; a null string is the length 0 alone. An array is its length, its bytes, padding. A descriptor takes no bytes.
 -- A byte of padding is None: the format leaves its value undefined.
 use mathlib.Core.Path.{_≡_}
-use mathlib.Core.List.{List, [], _∷_, _++_, map}
+use mathlib.Core.List.{List, [], _∷_, _++_}
 use Prim.Native.Nat.{ℕ, _+_, _-_, _*_, _/_, _%_}
-use lib.ListN.{length, take, drop, replicate}
+use lib.ListN.{length, replicate}
 use mir.Syntax.{w32}
 use mir.Val.{ofZ}
 use Rattle.std.specs.declared.option.Option.{Option}

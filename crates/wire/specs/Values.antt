@@ -3,7 +3,6 @@
 use mathlib.Core.List.{List, [], _∷_, _++_, map}
 use Prim.Native.Nat.{ℕ}
 use lib.IntN.{ℤ}
-use lib.ListN.{length}
 
 pub data Value (X : Type 0) : Type 0 where
   int : ℤ → Value X

@@ -1,5 +1,4 @@
 -- The argument view as a value.
-use mathlib.Core.Path.{_≡_}
 use Rattle.protocol.specs.declared.fd.OwnedFd.{OwnedFd}
 use Rattle.wire.specs.declared.view.ArgumentView.{ArgumentView}
 use Rattle.wire.specs.declared.view.ArgumentView.the-variants as view

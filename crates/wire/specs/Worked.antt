@@ -7,7 +7,6 @@ use lib.Chars.{codes}
 use lib.ListN.{length, take}
 use Rattle.std.specs.declared.result.Result.the-variants.{Ok, Err}
 use Rattle.protocol.specs.declared.argument.AllowNull.the-variants.{No}
-use Rattle.protocol.specs.declared.argument.ArgumentType.{ArgumentType}
 use Rattle.protocol.specs.declared.argument.ArgumentType.the-variants.{Str, Uint}
 use Rattle.protocol.specs.declared.fd.OwnedFd.{OwnedFd}
 use Rattle.protocol.specs.declared.fd.RawFd.{RawFd}

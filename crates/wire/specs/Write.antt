@@ -2,7 +2,7 @@
 use mathlib.Core.Path.{_≡_}
 use mathlib.Core.Bool.{Bool, true, cond, _&&_, _||_}
 use mathlib.Core.List.{List, [], _∷_, _++_, map}
-use Prim.Native.Nat.{ℕ, _+_, _-_}
+use Prim.Native.Nat.{ℕ, _-_}
 use lib.Dec.{eqb, ltb}
 use lib.ListN.{length, drop, set}
 use Rattle.std.specs.Options.{isSome}
@@ -18,7 +18,7 @@ use Rattle.protocol.specs.declared.header as source
 use Rattle.protocol.specs.declared.refusal.Refusal.{Refusal}
 use Rattle.protocol.specs.declared.refusal.Refusal.the-variants.{BadText, Oversize, DupFailed, Short}
 use Rattle.book.specs.Files.{Files, Enters, fileOf, numbers, opened}
-use Rattle.wire.specs.Values.{Message, Value, descriptors}
+use Rattle.wire.specs.Values.{Message, descriptors}
 use Rattle.wire.specs.Frame.{frame, overlay, sizeOf}
 use Rattle.wire.specs.Read.{noZero}
 use Rattle.wire.specs.Records.{bytesOf, inside, valueOf}

@@ -1,6 +1,4 @@
 ghost use mathlib.Core.Path.{_≡_};
-ghost use lib.ListN.{length, take, drop};
-ghost use Prim.Native.Nat.{_+_, _≤_};
 ghost use Rattle.std.specs.Options.{mapped};
 ghost use Rattle.wire.specs.Records.{valueIn, partOf};
 ghost use Rattle.wire.specs.View.{shown};

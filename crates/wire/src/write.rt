@@ -10,7 +10,6 @@ ghost use Rattle.std.specs.declared.result.Result.the-variants.{Ok, Err};
 ghost use Rattle.protocol.specs.declared.refusal.Refusal.the-variants.{BadText, Oversize};
 ghost use Rattle.book.specs.Files.{numbers, opened};
 ghost use Rattle.book.specs.View.{files};
-ghost use Rattle.wire.specs.Values.{descriptors};
 ghost use Rattle.wire.specs.Frame.{block, field, fields, frame, overlay, sizeOf, word};
 ghost use Rattle.wire.specs.Laws.{AllCarry, Carries};
 ghost use Rattle.wire.specs.Place.{lay};

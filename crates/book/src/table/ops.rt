@@ -1,10 +1,11 @@
 ghost use mathlib.Core.Bool.{true};
 ghost use mathlib.Core.Path.{_≡_};
+ghost use Prim.Native.Nat.{_<_};
 ghost use lib.ListN.{length, set, replicate};
 ghost use Rattle.std.specs.Options.{isSome};
 ghost use Rattle.std.specs.Results.{Cases};
 ghost use Rattle.std.specs.declared.option.Option.the-variants.{None};
-ghost use Rattle.book.specs.Files.{numbers, fileOf, Others, Opens, Duplicates, Closes};
+ghost use Rattle.book.specs.Files.{numbers, fileOf, Others, Enters, Opens, Duplicates, Closes};
 ghost use Rattle.book.specs.Table.{Unused, Distinct};
 ghost use Rattle.book.specs.View.{files};
 use super::Book;
@@ -48,10 +49,19 @@ impl Book {
         if self.free_len == 0 {
             return Err(Refusal::BookFull);
         }
+        Ok(self.enter(file))
+    }
+
+    // Takes the number on top of the stack for a file.
+    fn enter(&mut self, file: u64) -> RawFd
+        requires { ⌜ 0 < now self .«free_len» ⌝ }
+        ensures enters { λ r. ⌜ Enters file (r .0) (files (now (self .entry))) (files (now (self .exit))) ⌝ }
+        ensures others { λ r. ⌜ Others (r .0) (files (now (self .entry))) (files (now (self .exit))) ⌝ }
+    {
         self.free_len -= 1;
         let number = self.free[self.free_len];
         self.entries[number as usize] = Entry { open: true, file };
-        Ok(RawFd(u32::from(number)))
+        RawFd(u32::from(number))
     }
 
     // A second number for the file that `fd` stands for.

@@ -5,7 +5,6 @@ use lib.IntN.{pos}
 use lib.ListN.{getD}
 use Rattle.std.proofs.shelf.Lists.{getD-read}
 use Rattle.protocol.specs.Types.{sameType, typeOf}
-use Rattle.protocol.specs.declared.argument.Argument.{Argument}
 use Rattle.protocol.specs.declared.argument.Argument.the-variants.{Int}
 use Rattle.protocol.specs.declared.argument.ArgumentType.{ArgumentType}
 use Rattle.protocol.specs.declared.argument.ArgumentType.the-variants as type

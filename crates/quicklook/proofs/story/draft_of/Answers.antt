@@ -1,6 +1,5 @@
-use mathlib.Core.List.{List, [], _++_, map}
+use mathlib.Core.List.{[], _++_, map}
 use mathlib.Core.Path.{_≡_, sym, ap, _∙_}
-use Prim.Native.Nat.{ℕ}
 use lib.ListN.{length}
 use Rattle.std.specs.Of.Vec.{vec-items}
 use Rattle.wire.specs.Records.{valueOf}

@@ -1,17 +1,12 @@
-use mathlib.Core.Path.{_≡_, refl, sym, ap, _∙_}
-use mathlib.Core.List.{List, _∷_}
-use Prim.Native.Nat.{ℕ, _+_}
+use mathlib.Core.Path.{sym, ap, _∙_}
+use mathlib.Core.List.{List}
 use native.Mathlib.Omega.{arith}
-use lib.ListN.{length, drop, getD}
+use lib.ListN.{drop}
 use Rattle.std.specs.Options.{isSome}
-use Rattle.std.proofs.shelf.Lists.{drop-more, drop-all}
+use Rattle.std.proofs.shelf.Lists.{drop-all}
 use Rattle.protocol.specs.declared.argument.ArgumentType.{ArgumentType}
 use Rattle.protocol.specs.declared.argument.ArgumentType.the-variants.{Int}
-use Rattle.protocol.specs.declared.fd.OwnedFd.{OwnedFd}
-use Rattle.wire.specs.Values.{carried}
-use Rattle.wire.specs.Frame.{field}
 use Rattle.wire.specs.Read.{values}
-use Rattle.wire.specs.Records.{recordOf}
 use Rattle.wire.proofs.Walk.{stepped, turn, turn-stuck, some-before}
 use Rattle.wire.proofs.parse.arguments_fit.Needs as need
 

@@ -1,4 +1,3 @@
-use mathlib.Core.Path.{_≡_, sym, ap, _∙_}
 use native.Mathlib.Omega.{arith}
 use Rattle.wire.proofs.AtPlace.{whole-there, whole-missing}
 use Rattle.wire.proofs.parse.block_at.Needs as need

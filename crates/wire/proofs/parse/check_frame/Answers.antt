@@ -1,16 +1,16 @@
-use mathlib.Core.Path.{_≡_, refl, sym, ap, _∙_}
+use mathlib.Core.Path.{_≡_, sym, ap, _∙_}
 use mathlib.Core.Bool.{Bool, true, false}
 use mathlib.Core.List.{List}
-use Prim.Native.Nat.{ℕ, _-_, _≤_, _<_}
+use Prim.Native.Nat.{ℕ, _-_}
 use native.Mathlib.Omega.{arith}
-use lib.ListN.{length, take, drop}
+use lib.ListN.{take, drop}
 use Rattle.std.proofs.shelf.Lists.{length-drop}
 use Rattle.std.specs.Options.{isSome}
 use Rattle.std.specs.declared.result.Result.the-variants.{Err}
 use Rattle.protocol.specs.declared.argument.ArgumentType.{ArgumentType}
 use Rattle.protocol.specs.declared.fd.OwnedFd.{OwnedFd}
 use Rattle.protocol.specs.declared.refusal.Refusal.{Refusal}
-use Rattle.wire.specs.Read.{parse, sizeAt, values}
+use Rattle.wire.specs.Read.{parse, values}
 use Rattle.wire.specs.Laws.{GivesFrames, ReadsFrames}
 use Rattle.wire.proofs.Giving.{Bytes, gives-frames}
 use Rattle.wire.proofs.Parsing.{no-header, size-small, not-whole, fds-missing, room-small, after-checks, arguments-bad, size-is}

@@ -1,7 +1,6 @@
-use mathlib.Core.Path.{_≡_, refl, sym, ap, _∙_}
+use mathlib.Core.Path.{sym, ap}
 use mathlib.Core.List.{List}
 use native.Mathlib.Omega.{arith}
-use lib.ListN.{drop}
 use Rattle.std.proofs.shelf.Lists.{drop-all, drop-more}
 use Rattle.std.specs.Options.{mapped}
 use Rattle.protocol.specs.declared.fd.OwnedFd.{OwnedFd}

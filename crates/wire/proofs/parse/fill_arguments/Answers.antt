@@ -1,6 +1,6 @@
 use native.Mathlib.Omega.{arith}
 use Rattle.protocol.specs.declared.argument.ArgumentType.the-variants.{Int}
-use Rattle.wire.proofs.Walk.{stepped, turn, turn-stuck}
+use Rattle.wire.proofs.Walk.{stepped, turn-stuck}
 use Rattle.wire.proofs.Filling.{filling-none, filling-more, filling-stuck, filling-all}
 use Rattle.wire.proofs.parse.fill_arguments.Needs as need
 

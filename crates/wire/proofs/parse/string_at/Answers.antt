@@ -1,12 +1,10 @@
 use borrow.Author.Needs.{needs}
-use mathlib.Core.Path.{_≡_, sym, ap, _∙_}
-use mathlib.Core.Logic.{inl, inr}
-use Prim.Native.Nat.{_<_, _≤_, _+_}
+use mathlib.Core.Path.{sym, ap, _∙_}
+use Prim.Native.Nat.{_<_}
 use native.Mathlib.Omega.{arith}
-use lib.ListN.{length}
 use Rattle.std.specs.Options.{mapped}
 use Rattle.wire.specs.Records.{recordOf}
-use Rattle.wire.proofs.AtPlace.{Block, block-got, string-is, string-null, string-unended, string-holed, string-good}
+use Rattle.wire.proofs.AtPlace.{block-got, string-is, string-null, string-unended, string-holed, string-good}
 use Rattle.wire.proofs.parse.string_at.Needs as need
 use Rattle.wire.proofs.parse.string_at.Needs.{then-frame-last-ne0·by·then-frame-last-ne0, then-frame-last-ne0·by·else-frame-last-ne0·then-not-no-zero}
 

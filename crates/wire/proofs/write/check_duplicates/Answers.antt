@@ -1,6 +1,6 @@
 use mathlib.Core.Path.{_≡_, refl, sym, ap, _∙_}
 use mathlib.Core.List.{List}
-use Prim.Native.Nat.{ℕ, _+_, _-_, _<_, _≤_}
+use Prim.Native.Nat.{ℕ, _+_, _-_}
 use native.Mathlib.Omega.{arith}
 use lib.IntN.{pos}
 use lib.ListN.{length, drop}
@@ -8,8 +8,7 @@ use Rattle.std.proofs.shelf.Lists.{drop-all}
 use Rattle.std.specs.declared.option.Option.{Option}
 use Rattle.std.specs.declared.option.Option.the-variants.{Some, None}
 use Rattle.std.specs.declared.result.Result.{Result}
-use Rattle.std.specs.declared.result.Result.the-variants.{Ok, Err}
-use Rattle.protocol.specs.declared.argument.Argument.{Argument}
+use Rattle.std.specs.declared.result.Result.the-variants.{Ok}
 use Rattle.protocol.specs.declared.argument.Argument.the-variants.{Int}
 use Rattle.protocol.specs.declared.fd.RawFd.{RawFd}
 use Rattle.protocol.specs.declared.refusal.Refusal.{Refusal}

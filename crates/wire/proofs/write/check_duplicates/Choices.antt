@@ -1,7 +1,6 @@
 use Prim.Native.Nat.{_+_, _-_, _≤_}
 use mathlib.Core.Path.{_≡_}
 use lib.ListN.{drop, length}
-use Rattle.book.specs.Files.{numbers, opened}
 use Rattle.book.specs.View.{files}
 use Rattle.wire.specs.Records.{numbersIn}
 use Rattle.wire.specs.Write.{dupFailure}

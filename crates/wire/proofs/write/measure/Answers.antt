@@ -1,16 +1,14 @@
-use mathlib.Core.Path.{_≡_, refl, sym, ap, _∙_}
-use mathlib.Core.Bool.{true, false}
-use Prim.Native.Nat.{ℕ, _+_, _<_, _≤_}
+use mathlib.Core.Path.{_≡_, sym, ap, _∙_}
+use mathlib.Core.Bool.{true}
+use Prim.Native.Nat.{_+_, _<_, _≤_}
 use native.Mathlib.Omega.{arith}
 use lib.ListN.{length, drop}
-use mathlib.Core.List.{List, map}
+use mathlib.Core.List.{map}
 use Rattle.std.proofs.shelf.Lists.{drop-all}
 use Rattle.std.proofs.shelf.Tests.{cond-true, cond-false, lt-ltb, le-ltb}
-use Rattle.std.specs.declared.result.Result.the-variants.{Ok, Err}
-use Rattle.protocol.specs.declared.argument.Argument.{Argument}
+use Rattle.std.specs.declared.result.Result.the-variants.{Ok}
 use Rattle.protocol.specs.declared.argument.Argument.the-variants.{Int}
 use lib.IntN.{pos}
-use Rattle.protocol.specs.declared.fd.RawFd.{RawFd}
 use Rattle.wire.specs.Frame.{fields}
 use Rattle.wire.specs.Records.{fieldsLength, valueOf}
 use Rattle.wire.specs.Write.{goodTexts, largest}

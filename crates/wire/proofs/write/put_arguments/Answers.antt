@@ -1,5 +1,5 @@
-use mathlib.Core.Path.{_≡_, refl, sym, ap, subst, _∙_}
-use Prim.Native.Nat.{ℕ, _+_, _<_, _≤_}
+use mathlib.Core.Path.{_≡_, sym, ap, subst, _∙_}
+use Prim.Native.Nat.{ℕ, _+_}
 use native.Mathlib.Omega.{arith}
 use lib.IntN.{pos}
 use lib.ListN.{drop, getD}
@@ -11,7 +11,7 @@ use Rattle.protocol.specs.declared.fd.RawFd.{RawFd}
 use Rattle.wire.specs.Frame.{fields}
 use Rattle.wire.specs.Laws.{AllCarry}
 use Rattle.wire.specs.Place.{lay}
-use Rattle.wire.specs.Records.{fieldLength, fieldsLength, valueOf}
+use Rattle.wire.specs.Records.{fieldLength, valueOf}
 use Rattle.wire.proofs.Laying.{lay-none}
 use Rattle.wire.proofs.Texts.{carry-more, good-split, length-more, laid-more}
 use Rattle.wire.proofs.write.put_arguments.Needs as need

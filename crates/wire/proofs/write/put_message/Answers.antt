@@ -1,6 +1,6 @@
-use mathlib.Core.Path.{_≡_, refl, sym, ap, subst, _∙_}
+use mathlib.Core.Path.{_≡_, sym, subst}
 use mathlib.Core.List.{List}
-use Prim.Native.Nat.{ℕ, _-_, _≤_}
+use Prim.Native.Nat.{_-_, _≤_}
 use native.Mathlib.Omega.{arith}
 use lib.ListN.{length}
 use Rattle.std.specs.declared.option.Option.the-variants.{None}
@@ -8,7 +8,6 @@ use Rattle.protocol.specs.declared.fd.RawFd.{RawFd}
 use Rattle.book.specs.Files.{numbers, opened}
 use Rattle.book.specs.View.{files}
 use Rattle.book.proofs.Lengths.{files-length}
-use Rattle.wire.specs.Records.{numbersIn}
 use Rattle.wire.specs.Write.{Placed, dupFailure, goodTexts, messageOf}
 use Rattle.wire.proofs.Regaining.{matching-typed, read-back}
 use Rattle.wire.proofs.Texts.{descriptors-are}

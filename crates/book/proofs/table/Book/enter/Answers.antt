@@ -9,7 +9,7 @@ use Rattle.book.specs.View.{files}
 use Rattle.book.proofs.Changes.{set-others}
 use Rattle.book.proofs.Counts.{none-from-one}
 use Rattle.book.proofs.Entries.{entered, sound, sound-pop}
-use Rattle.book.proofs.table.Book.open.Needs as need
+use Rattle.book.proofs.table.Book.enter.Needs as need
 
 pub ghost-self : need.ghost-self
 ghost-self c =
@@ -23,6 +23,6 @@ returns c =
     let top = b .unused (b .«free_len» - 1) (omega arith) in
     let p = map-set standsFor (b .entries) n (entered (c .args .file)) in
     rw (c .from .ensures) record {
-      opens = record { below = top .0; unused = none-from-one (fileOf (files b) n) (top .1); after = p };
+      enters = record { below = top .0; unused = none-from-one (fileOf (files b) n) (top .1); after = p };
       others = set-others (files b) _ n (Some (c .args .file)) p;
     }
