@@ -142,7 +142,7 @@ fn show_writing(
     Ok(out)
 }
 
-// Duplicates that stand for the marks.
+// Duplicates that stand for the marks: a number that arrives belongs to the end from the start.
 fn arrive(
     book: &mut Book,
     marks: &[u64],

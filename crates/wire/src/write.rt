@@ -30,6 +30,11 @@ use protocol::Refusal;
 // The largest frame: the size is a multiple of 4 that 16 bits hold.
 const LARGEST: usize = 65532;
 
+// The system's codes for a number that is not open, and for a full table.
+const EBADF: u32 = 9;
+
+const EMFILE: u32 = 24;
+
 fn good_text(argument: &Argument<RawFd>, text: &[u8]) -> bool
     ensures { λ r. ⌜ r ≡ goodText (now (text .entry)) (now (argument .entry)) ⌝ }
 {
@@ -69,10 +74,10 @@ fn check_duplicates(args: &[Argument<RawFd>], book: &Book) -> Result<usize, Refu
     for argument in args {
         if let Some(fd) = fd_of(argument) {
             if book.file(fd).is_err() {
-                return Err(Refusal::DupFailed(9));
+                return Err(Refusal::DupFailed(EBADF));
             }
             if count >= free {
-                return Err(Refusal::DupFailed(24));
+                return Err(Refusal::DupFailed(EMFILE));
             }
             count += 1;
         }
