@@ -39,7 +39,7 @@ pub(crate) fn run(heap: Global, book: &mut Book, command: Command) -> io::Result
             signature,
             arguments,
         } => {
-            let checked = check_for_signature(signature.as_slice(), arguments.records.as_slice());
+            let checked = check_for_signature(signature.types(), arguments.records.as_slice());
             Ok(format!(heap, "{}", checked.is_ok())?)
         }
     }
@@ -170,7 +170,7 @@ fn parse(heap: Global, book: &mut Book, parsing: Parsing) -> io::Result<String> 
 
 fn parse_with(heap: Global, book: &Book, parsing: &Parsing, fds: &[OwnedFd]) -> io::Result<String> {
     let raw = parsing.raw.as_slice();
-    let signature = parsing.signature.as_slice();
+    let signature = parsing.signature.types();
     let mut records = free_records(heap, parsing.room)?;
     let mut cursor = 0;
     let mut out = String::new(heap);

@@ -5,7 +5,7 @@
 //   parse HEX SIGNATURE ROOM [MARK,..]         into ROOM records, with duplicates that stand for the marks
 //   check SIGNATURE ARGS
 // ARGS are i:-5 u:7 f:256 s:HEX S o:3 n:2 a:HEX h:NUMBER, where S is the null string.
-// HEX is `-` for no bytes, or parts joined by `+`, of which `61*5` is one repeated. SIGNATURE is `-` or libwayland's letters.
+// HEX is `-` for no bytes, or parts joined by `+`, of which `61*5` is one repeated. SIGNATURE is `-` or libwayland's letters, for at most 20 types.
 use crate::words::Arguments;
 use crate::words::Fault;
 use crate::words::FaultFromAllocError;
@@ -14,8 +14,8 @@ use crate::words::bytes;
 use crate::words::marks;
 use crate::words::next_word;
 use crate::words::signature;
-use protocol::ArgumentType;
 use protocol::RawFd;
+use signature::Signature;
 use std::alloc::Global;
 use std::str::SplitWhitespace;
 
@@ -29,7 +29,7 @@ pub(crate) enum Command {
     Write(Writing),
     Parse(Parsing),
     Check {
-        signature: Vec<ArgumentType>,
+        signature: Signature,
         arguments: Arguments,
     },
 }
@@ -46,7 +46,7 @@ pub(crate) struct Writing {
 #[derive(Drop)]
 pub(crate) struct Parsing {
     pub(crate) raw: Vec<u8>,
-    pub(crate) signature: Vec<ArgumentType>,
+    pub(crate) signature: Signature,
     pub(crate) room: usize,
     pub(crate) marks: Vec<u64>,
 }
@@ -110,7 +110,7 @@ fn read_writing(heap: Global, words: &mut SplitWhitespace) -> Result<Writing, Fa
 
 fn read_parsing(heap: Global, words: &mut SplitWhitespace) -> Result<Parsing, Fault> {
     let raw = bytes(heap, next_word(words)?)?;
-    let signature = signature(heap, next_word(words)?)?;
+    let signature = signature(next_word(words)?)?;
     let room = next_word(words)?.parse::<usize>()?;
     let marks = match words.next() {
         Some(word) => marks(heap, word)?,
@@ -125,7 +125,7 @@ fn read_parsing(heap: Global, words: &mut SplitWhitespace) -> Result<Parsing, Fa
 }
 
 fn read_check(heap: Global, words: &mut SplitWhitespace) -> Result<Command, Fault> {
-    let signature = signature(heap, next_word(words)?)?;
+    let signature = signature(next_word(words)?)?;
     let arguments = Arguments::read(heap, words)?;
     Ok(Command::Check {
         signature,

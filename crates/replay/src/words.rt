@@ -3,11 +3,12 @@ ghost use mathlib.Core.Path.{_≡_};
 ghost use Prim.Native.Nat.{_+_, _<_, _≤_};
 ghost use Rattle.std.specs.Of.Vec.{vec-len};
 ghost use Rattle.std.specs.Results.{Cases};
-use protocol::AllowNull;
 use protocol::Argument;
-use protocol::ArgumentType;
 use protocol::RawFd;
 use protocol::Text;
+use signature::LetterNotation;
+use signature::Notation;
+use signature::Signature;
 use std::alloc::AllocError;
 use std::alloc::Global;
 use std::alloc::Refused;
@@ -102,46 +103,13 @@ pub(crate) fn bytes(heap: Global, word: &str) -> Result<Vec<u8>, Fault> {
     Ok(out)
 }
 
-fn argument_type(letter: u8, null: AllowNull) -> Result<ArgumentType, Fault> {
-    match (letter, null) {
-        (b's', null) => Ok(ArgumentType::Str(null)),
-        (b'o', null) => Ok(ArgumentType::Object(null)),
-        (_, AllowNull::Yes) => Err(Fault::BadLine),
-        (b'i', _) => Ok(ArgumentType::Int),
-        (b'u', _) => Ok(ArgumentType::Uint),
-        (b'f', _) => Ok(ArgumentType::Fixed),
-        (b'n', _) => Ok(ArgumentType::NewId),
-        (b'a', _) => Ok(ArgumentType::Array),
-        (b'h', _) => Ok(ArgumentType::Fd),
-        _ => Err(Fault::BadLine),
+// The types of a word: `-` for none, or libwayland's letters.
+pub(crate) fn signature(word: &str) -> Result<Signature, Fault> {
+    let letters = if word == "-" { "" } else { word };
+    match u8::read(letters.as_bytes()) {
+        Some(types) => Ok(types),
+        None => Err(Fault::BadLine),
     }
-}
-
-// libwayland's letters, with `?` only right before `s` or `o`.
-fn push_types(out: &mut Vec<ArgumentType>, letters: &[u8]) -> Result<(), Fault> {
-    let mut null = AllowNull::No;
-    for letter in letters {
-        if *letter == b'?' && matches!(null, AllowNull::No) {
-            null = AllowNull::Yes;
-        } else {
-            out.push(argument_type(*letter, null)?)?;
-            null = AllowNull::No;
-        }
-    }
-    match null {
-        AllowNull::No => Ok(()),
-        AllowNull::Yes => Err(Fault::BadLine),
-    }
-}
-
-// The types of a word: `-` for none, or digits, which are skipped, and letters.
-pub(crate) fn signature(heap: Global, word: &str) -> Result<Vec<ArgumentType>, Fault> {
-    let mut types = Vec::new(heap);
-    if word != "-" {
-        let letters = word.trim_start_matches(['0', '1', '2', '3', '4', '5', '6', '7', '8', '9']);
-        push_types(&mut types, letters.as_bytes())?;
-    }
-    Ok(types)
 }
 
 // Marks joined by commas.

@@ -8,7 +8,7 @@ use native.Mathlib.Omega.{arith}
 use lib.Dec.{leb}
 use lib.ListN.{length, take, drop, getD}
 use Rattle.std.proofs.shelf.Lists.{getD-drop, getD-take, length-drop, length-take, drop-more, drop-drop, take-take, getD-default}
-use Rattle.std.proofs.shelf.Tests.{cond-true, cond-false, le-leb, lt-leb, eq-eqb, ne-eqb, leb-true, and-parts, and-left, and-right, and-from}
+use Rattle.std.proofs.shelf.Tests.{cond-true, cond-false, le-leb, lt-leb, eq-eqb, ne-eqb, and-left, and-right, and-from}
 use Rattle.std.specs.Options.{mapped}
 use Rattle.std.specs.declared.option.Option.the-variants.{Some, None}
 use Rattle.wire.specs.Read.{wordAt, noZero, whole, inner, ended, text}
@@ -18,6 +18,7 @@ use Rattle.wire.specs.Records.{bytesOf, textAt, blockLength, recordOf}
 use Rattle.protocol.specs.declared.argument.Text.{Text}
 use Rattle.protocol.specs.declared.argument.Argument.the-variants as arg
 use Rattle.wire.proofs.Outcomes.{got}
+use Rattle.wire.proofs.Walk.{whole-fits}
 
 pub word-drop : (bs : List ℕ) (at : ℕ) → wordAt (drop at bs) ≡ getD bs at 0 + getD bs (at + 1) 0 * 256 + getD bs (at + 2) 0 * 65536 + getD bs (at + 3) 0 * 16777216
 word-drop bs at = simp (getD-drop, add-zero)
@@ -35,9 +36,6 @@ zero-more bs i h e = ap noZero (drop-more bs i 0 h) ∙ cond-false _ _ _ (ne-eqb
 
 pub zero-here : (bs : List ℕ) (i : ℕ) → i < length bs → getD bs i 0 ≡ 0 → noZero (drop i bs) ≡ false
 zero-here bs i h e = ap noZero (drop-more bs i 0 h) ∙ cond-true _ _ _ (eq-eqb _ _ e)
-
-whole-bound : (bs : List ℕ) → whole bs ≡ true → 4 + (wordAt bs + padding (wordAt bs)) ≤ length bs
-whole-bound bs h = leb-true _ _ (and-parts _ _ h .1)
 
 pub whole-there : (f : List ℕ) (at n : ℕ) → Some n ≡ cond (leb 4 (length (drop at f))) (Some (wordAt (drop at f))) None → blockLength n ≤ length f - at
     → Some (textAt (at + 4) n) ≡ cond (whole (drop at f)) (Some (textAt (at + 4) (wordAt (drop at f)))) None
@@ -65,7 +63,7 @@ pub record Block (f : List ℕ) (at : ℕ) (t : Text) : Type 0 where
 pub block-got : (f : List ℕ) (at : ℕ) (t : Text) → Some t ≡ cond (whole (drop at f)) (Some (textAt (at + 4) (wordAt (drop at f)))) None → Block f at t
 block-got f at t e =
     let g = got _ _ _ e in
-    let b = simp length-drop at (whole-bound (drop at f) (g .0)) in
+    let b = simp length-drop at (whole-fits (drop at f) (g .0)) in
     let p : t .place ≡ at + 4 = ap (λ (x : Text). x .place) (g .1) in
     let l : t .len ≡ wordAt (drop at f) = ap (λ (x : Text). x .len) (g .1) in
     record { there = g .0; place = p; len = l; fit = ap≤ (t .len) (wordAt (drop at f)) l p b }
