@@ -1,3 +1,5 @@
+#![tactic(auto)]
+
 mod table;
 
 pub use table::Book;

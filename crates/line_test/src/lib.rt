@@ -1,4 +1,7 @@
 // Drives both kinds of line with the same sends, and looks that what is received is what was sent.
+
+#![tactic(auto)]
+
 #[cfg(test)]
 mod driver;
 #[cfg(test)]

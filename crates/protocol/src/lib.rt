@@ -1,3 +1,5 @@
+#![tactic(auto)]
+
 mod argument;
 mod fd;
 mod header;

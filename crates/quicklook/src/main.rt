@@ -1,4 +1,7 @@
 // Takes one labelled picture from the queue to the quick-look screen, and prints what happened.
+
+#![tactic(auto)]
+
 mod captions;
 mod draft;
 mod fault;

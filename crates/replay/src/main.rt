@@ -1,5 +1,8 @@
 // Runs a script of writes and parses, and prints one answer for each line.
 // `compare/` runs the same script through the original Rust; the answers are held to the crate's `stdout`.
+
+#![tactic(auto)]
+
 mod run;
 mod script;
 mod show;

@@ -1,3 +1,5 @@
+#![tactic(auto)]
+
 mod letters;
 mod notation;
 mod rows;

@@ -1,3 +1,5 @@
+#![tactic(auto)]
+
 mod field;
 mod parse;
 mod view;

@@ -11,5 +11,5 @@ loop-place-preserved g c =
     let here = get_or c.args.signature.now c.loop-place.place type.Int in
     below_more _ _ c.loop-place.invariant
     (ap (λ a. same_type (type_of a) here) (sym (get_or_read c.args.args.now c.loop-place.place c.index-args-place.result (omega arith) c.index-args-place.is (Int (pos 0))))
-    ∙ ap (λ (t : ArgumentType). same_type t here) (sym c.get-type.ensures)
-    ∙ sym c.if-not-same-type.ensures)
+    ∙ ap (λ (t : ArgumentType). same_type t here) (sym c.get_type.ensures)
+    ∙ sym c.if-not-same_type.ensures)
