@@ -7,7 +7,7 @@ use Rattle.quicklook.proofs.story.picture_in.Goals as goal
 
 pub returns-in-Fd : goal.returns-in-Fd
 returns-in-Fd c =
-    ap Some c.into-raw-fd.ensures ∙ sym (first_here c.args.records.now c.loop-record.record-index _ c.in-Fd.fd c.loop-record-test.true c.in-Fd.is) ∙ c.loop-record.invariant
+    ap Some c.into_raw_fd.ensures ∙ sym (first_here c.args.records.now c.loop-record.record-index _ c.in-Fd.fd c.loop-record-test.true c.in-Fd.is) ∙ c.loop-record.invariant
 
 pub loop-record-preserved : goal.loop-record-preserved
 loop-record-preserved c =

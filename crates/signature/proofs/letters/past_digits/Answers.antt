@@ -4,14 +4,14 @@ use Rattle.signature.specs.Letters.{past_digits}
 use Rattle.signature.proofs.Steps.{digit_on, digit_off}
 use Rattle.signature.proofs.letters.past_digits.Goals as goal
 
-pub returns-then-not-is-digit : goal.returns-then-not-is-digit
-returns-then-not-is-digit c =
+pub returns-then-not-is_digit : goal.returns-then-not-is_digit
+returns-then-not-is_digit c =
     take_rest c.args.letters.now c.loop-i.i
-    ∙ sym (digit_off c.args.letters.now c.loop-i.i (omega arith) (sym c.if-not-is-digit.ensures))
+    ∙ sym (digit_off c.args.letters.now c.loop-i.i (omega arith) (sym c.if-not-is_digit.ensures))
     ∙ c.loop-i.invariant
 
 pub loop-i-preserved : goal.loop-i-preserved
-loop-i-preserved c = sym (digit_on c.args.letters.now c.loop-i.i (omega arith) (sym c.if-not-is-digit.ensures)) ∙ c.loop-i.invariant
+loop-i-preserved c = sym (digit_on c.args.letters.now c.loop-i.i (omega arith) (sym c.if-not-is_digit.ensures)) ∙ c.loop-i.invariant
 
 pub returns : goal.returns
 returns c =

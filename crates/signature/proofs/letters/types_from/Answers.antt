@@ -24,12 +24,12 @@ returns-in-Bad c =
 
 pub loop-letter-preserved : goal.loop-letter-preserved
 loop-letter-preserved c =
-    elim c.match-step-at.branch [
+    elim c.match-step_at.branch [
       | in-Mark w ↦
-          marked c.args.letters.now c.loop-letter.letter-index (omega arith) c.loop-letter.marked c.match-step-at.marked (types_in c.loop-letter.read) (types_in c.match-step-at.read) _
+          marked c.args.letters.now c.loop-letter.letter-index (omega arith) c.loop-letter.marked c.match-step_at.marked (types_in c.loop-letter.read) (types_in c.match-step_at.read) _
           c.loop-letter.invariant w.in-Mark.ensures (ap types_in w.read-is) w.marked-is
       | in-Put+else-not-push w ↦
-          placed c.args.letters.now c.loop-letter.letter-index (omega arith) c.loop-letter.marked c.match-step-at.marked (types_in c.loop-letter.read) (types_in c.match-step-at.read) _
+          placed c.args.letters.now c.loop-letter.letter-index (omega arith) c.loop-letter.marked c.match-step_at.marked (types_in c.loop-letter.read) (types_in c.match-step_at.read) _
           c.loop-letter.invariant w.in-Put.last w.in-Put.ensures (ap types_in w.read-is ∙ w.if-not-push.ensures.after) w.marked-is
     ]
 

@@ -6,11 +6,11 @@ use Rattle.wire.specs.Read.{values}
 use Rattle.wire.proofs.Walk.{stepped, turn, turn_stuck, some_before}
 use Rattle.wire.proofs.parse.arguments_fit.Goals as goal
 
-pub overflow-add-at : goal.overflow-add-at
-overflow-add-at c = let s = stepped _ c.args.frame.now c.loop-kind.at c.args.fds.now c.loop-kind.next _ c.in-Some.ensures in omega (arith, s.size, s.inside, c.loop-kind.invariant.0)
+pub overflow_add-at : goal.overflow_add-at
+overflow_add-at c = let s = stepped _ c.args.frame.now c.loop-kind.at c.args.fds.now c.loop-kind.next _ c.in-Some.ensures in omega (arith, s.size, s.inside, c.loop-kind.invariant.0)
 
-pub overflow-add-next : goal.overflow-add-next
-overflow-add-next c = let s = stepped _ c.args.frame.now c.loop-kind.at c.args.fds.now c.loop-kind.next _ c.in-Some.ensures in omega (arith, s.carries, s.there, c.loop-kind.invariant.2)
+pub overflow_add-next : goal.overflow_add-next
+overflow_add-next c = let s = stepped _ c.args.frame.now c.loop-kind.at c.args.fds.now c.loop-kind.next _ c.in-Some.ensures in omega (arith, s.carries, s.there, c.loop-kind.invariant.2)
 
 pub returns-in-None : goal.returns-in-None
 returns-in-None c =
@@ -20,8 +20,8 @@ returns-in-None c =
 pub loop-kind-preserved : goal.loop-kind-preserved
 loop-kind-preserved c =
     let s = stepped _ c.args.frame.now c.loop-kind.at c.args.fds.now c.loop-kind.next _ c.in-Some.ensures in
-    let t = turn c.args.signature.now Int c.args.frame.now c.loop-kind.at c.args.fds.now c.loop-kind.next c.in-Some.argument c.loop-kind.kind-index c.field-len-at.result c.fd-len-next.result s
-    (omega arith) c.loop-kind.invariant.0 (omega arith) c.field-len-at.ensures c.fd-len-next.ensures in
+    let t = turn c.args.signature.now Int c.args.frame.now c.loop-kind.at c.args.fds.now c.loop-kind.next c.in-Some.argument c.loop-kind.kind-index c.field_len-at.result c.fd_len-next.result s
+    (omega arith) c.loop-kind.invariant.0 (omega arith) c.field_len-at.ensures c.fd_len-next.ensures in
     (t.1, sym (some_before s.value _) ∙ sym (ap is_some t.2) ∙ c.loop-kind.invariant.1, omega (arith, s.carries, s.there, c.loop-kind.invariant.2))
 
 pub returns : goal.returns

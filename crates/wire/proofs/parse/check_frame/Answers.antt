@@ -26,49 +26,49 @@ returns-then-raw-lt8 c =
 
 pub returns-then-size-lt8 : goal.returns-then-size-lt8
 returns-then-size-lt8 c =
-    let s = size_is c.header-of-header.result c.args.raw.now c.header-of-header.ensures in
+    let s = size_is c.header_of-header.result c.args.raw.now c.header_of-header.ensures in
     at_refusal c.args.room c.args.signature.now c.args.raw.now (drop c.args.cursor c.args.fds.now) _ (λ k. (c.type-inv.raw k).fits)
     (size_small c.args.room c.args.signature.now c.args.raw.now (drop c.args.cursor c.args.fds.now) (omega arith) (omega arith))
 
 pub returns-then-size-raw : goal.returns-then-size-raw
 returns-then-size-raw c =
-    let s = size_is c.header-of-header.result c.args.raw.now c.header-of-header.ensures in
+    let s = size_is c.header_of-header.result c.args.raw.now c.header_of-header.ensures in
     at_refusal c.args.room c.args.signature.now c.args.raw.now (drop c.args.cursor c.args.fds.now) _ (λ k. (c.type-inv.raw k).fits)
     (not_whole c.args.room c.args.signature.now c.args.raw.now (drop c.args.cursor c.args.fds.now) (omega arith) (omega arith) (omega arith))
 
-pub returns-then-saturating-sub-fd-count : goal.returns-then-saturating-sub-fd-count
-returns-then-saturating-sub-fd-count c =
-    let s = size_is c.header-of-header.result c.args.raw.now c.header-of-header.ensures in
+pub returns-then-saturating_sub-fd_count : goal.returns-then-saturating_sub-fd_count
+returns-then-saturating_sub-fd_count c =
+    let s = size_is c.header_of-header.result c.args.raw.now c.header_of-header.ensures in
     at_refusal c.args.room c.args.signature.now c.args.raw.now (drop c.args.cursor c.args.fds.now) _ (λ k. (c.type-inv.raw k).fits)
     (fds_missing c.args.room c.args.signature.now c.args.raw.now (drop c.args.cursor c.args.fds.now) (omega arith, omega arith, omega arith)
     (simp length-drop (omega (arith, c.fds_counted.ensures))))
 
 pub returns-then-room-signature : goal.returns-then-room-signature
 returns-then-room-signature c =
-    let s = size_is c.header-of-header.result c.args.raw.now c.header-of-header.ensures in
+    let s = size_is c.header_of-header.result c.args.raw.now c.header_of-header.ensures in
     at_refusal c.args.room c.args.signature.now c.args.raw.now (drop c.args.cursor c.args.fds.now) _ (λ k. (c.type-inv.raw k).fits)
     (room_small c.args.room c.args.signature.now c.args.raw.now (drop c.args.cursor c.args.fds.now) (omega arith, omega arith, omega arith)
     (simp length-drop (omega (arith, c.fds_counted.ensures))) (omega arith))
 
-pub returns-then-not-arguments-fit : goal.returns-then-not-arguments-fit
-returns-then-not-arguments-fit c =
-    let s = size_is c.header-of-header.result c.args.raw.now c.header-of-header.ensures in
+pub returns-then-not-arguments_fit : goal.returns-then-not-arguments_fit
+returns-then-not-arguments_fit c =
+    let s = size_is c.header_of-header.result c.args.raw.now c.header_of-header.ensures in
     at_refusal c.args.room c.args.signature.now c.args.raw.now (drop c.args.cursor c.args.fds.now) _ (λ k. (c.type-inv.raw k).fits)
     (arguments_bad c.args.signature.now c.args.raw.now (drop c.args.cursor c.args.fds.now) _
     (after_checks c.args.room c.args.signature.now c.args.raw.now (drop c.args.cursor c.args.fds.now) (omega arith, omega arith, omega arith)
     (simp length-drop (omega (arith, c.fds_counted.ensures))) (omega arith))
-    (fit_at false c.args.signature.now c.args.raw.now (drop c.args.cursor c.args.fds.now) _ _ s c.if-not-arguments-fit.ensures))
+    (fit_at false c.args.signature.now c.args.raw.now (drop c.args.cursor c.args.fds.now) _ _ s c.if-not-arguments_fit.ensures))
 
 pub returns : goal.returns
 returns c =
-    let s = size_is c.header-of-header.result c.args.raw.now c.header-of-header.ensures in
+    let s = size_is c.header_of-header.result c.args.raw.now c.header_of-header.ensures in
     record {
       checked = record {
-        is = c.header-of-header.ensures;
+        is = c.header_of-header.ensures;
         long = omega arith;
         whole = omega arith;
         room-enough = omega arith;
-        fit = sym (fit_at true c.args.signature.now c.args.raw.now (drop c.args.cursor c.args.fds.now) _ _ s c.if-not-arguments-fit.ensures);
+        fit = sym (fit_at true c.args.signature.now c.args.raw.now (drop c.args.cursor c.args.fds.now) _ _ s c.if-not-arguments_fit.ensures);
         answer =
             after_checks c.args.room c.args.signature.now c.args.raw.now (drop c.args.cursor c.args.fds.now) (omega arith, omega arith, omega arith)
             (simp length-drop (omega (arith, c.fds_counted.ensures))) (omega arith);

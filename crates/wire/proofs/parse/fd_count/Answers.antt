@@ -9,7 +9,7 @@ pub loop-kind-preserved : goal.loop-kind-preserved
 loop-kind-preserved c =
     let t = get_or c.args.signature.now c.loop-kind.kind-index Int in
     let e : fd_count (drop c.loop-kind.kind-index c.args.signature.now) ≡ fd_of t + fd_count (drop (c.loop-kind.kind-index + 1) c.args.signature.now) = ap fd_count (drop_more c.args.signature.now c.loop-kind.kind-index Int (omega arith)) in
-    (omega (arith, fd_few t, c.fds-of-count.ensures), omega (arith, c.fds-of-count.ensures))
+    (omega (arith, fd_few t, c.fds_of-count.ensures), omega (arith, c.fds_of-count.ensures))
 
 pub returns : goal.returns
 returns c =

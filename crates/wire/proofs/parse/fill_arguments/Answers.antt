@@ -7,11 +7,11 @@ use Rattle.wire.proofs.parse.fill_arguments.Goals as goal
 pub loop-i-init : goal.loop-i-init
 loop-i-init c = (c.requires.long, omega arith, filling_none c.args.signature.now c.args.frame.now c.args.fds.now c.args.cursor.now c.args.records.now)
 
-pub overflow-add-at : goal.overflow-add-at
-overflow-add-at c = let s = stepped _ c.args.frame.now c.loop-i.at c.args.fds.now c.loop-i.next _ c.in-Some.ensures in omega (arith, s.size, s.inside, c.loop-i.invariant.0)
+pub overflow_add-at : goal.overflow_add-at
+overflow_add-at c = let s = stepped _ c.args.frame.now c.loop-i.at c.args.fds.now c.loop-i.next _ c.in-Some.ensures in omega (arith, s.size, s.inside, c.loop-i.invariant.0)
 
-pub overflow-add-next : goal.overflow-add-next
-overflow-add-next c = let s = stepped _ c.args.frame.now c.loop-i.at c.args.fds.now c.loop-i.next _ c.in-Some.ensures in omega (arith, s.carries, s.there, c.loop-i.invariant.1)
+pub overflow_add-next : goal.overflow_add-next
+overflow_add-next c = let s = stepped _ c.args.frame.now c.loop-i.at c.args.fds.now c.loop-i.next _ c.in-Some.ensures in omega (arith, s.carries, s.there, c.loop-i.invariant.1)
 
 pub unreachable-requires : goal.unreachable-requires
 unreachable-requires c =
@@ -24,8 +24,8 @@ loop-i-preserved c =
     let s = stepped _ c.args.frame.now c.loop-i.at c.args.fds.now c.loop-i.next _ c.in-Some.ensures in (
       omega (arith, s.size, s.inside, c.loop-i.invariant.0),
       omega (arith, s.carries, s.there, c.loop-i.invariant.1),
-      filling_more c.args.signature.now c.args.frame.now c.args.fds.now c.args.cursor.now c.args.records.now Int c.loop-i.i c.loop-i.at c.loop-i.next c.field-len-at.result c.fd-len-next.result c.loop-i.records c.in-Some.argument
-          c.loop-i.invariant.2 s (omega arith) c.requires.room c.loop-i.invariant.0 (omega arith) c.field-len-at.ensures c.fd-len-next.ensures,
+      filling_more c.args.signature.now c.args.frame.now c.args.fds.now c.args.cursor.now c.args.records.now Int c.loop-i.i c.loop-i.at c.loop-i.next c.field_len-at.result c.fd_len-next.result c.loop-i.records c.in-Some.argument
+          c.loop-i.invariant.2 s (omega arith) c.requires.room c.loop-i.invariant.0 (omega arith) c.field_len-at.ensures c.fd_len-next.ensures,
     )
 
 pub returns : goal.returns

@@ -9,14 +9,14 @@ use Rattle.wire.proofs.parse.take_message.Goals as goal
 same : (n m : ℕ) → n ≡ m → n - 0 ≡ m
 same n m e = (let z : n - 0 ≡ n = omega arith in z) ∙ e
 
-pub slice-bounds-fill-arguments-end : goal.slice-bounds-fill-arguments-end
-slice-bounds-fill-arguments-end c =
+pub slice_bounds-fill_arguments-end : goal.slice_bounds-fill_arguments-end
+slice_bounds-fill_arguments-end c =
     let s = size_is c.args.header c.args.raw.now c.requires.is in
     let w : c.args.header.size ≤ length c.args.raw.now = (let l = c.requires.whole in omega arith) in
     search rules
 
-pub fill-arguments-requires : goal.fill-arguments-requires
-fill-arguments-requires c =
+pub fill_arguments-requires : goal.fill_arguments-requires
+fill_arguments-requires c =
     let s = size_is c.args.header c.args.raw.now c.requires.is in
     let l = c.requires.long in
     let w = c.requires.whole in
@@ -29,8 +29,8 @@ fill-arguments-requires c =
 pub returns : goal.returns
 returns c =
     let s = size_is c.args.header c.args.raw.now c.requires.is in
-    let filled = subst (λ (n : ℕ). Filled (values c.args.signature.now (drop 8 (take n c.args.raw.now)) (drop c.args.cursor.now c.args.fds.now)) c.args.cursor.now c.args.records.now c.fill-arguments.new.cursor c.fill-arguments.new.records)
-    (same _ _ s) c.fill-arguments.ensures in
+    let filled = subst (λ (n : ℕ). Filled (values c.args.signature.now (drop 8 (take n c.args.raw.now)) (drop c.args.cursor.now c.args.fds.now)) c.args.cursor.now c.args.records.now c.fill_arguments.new.cursor c.fill_arguments.new.records)
+    (same _ _ s) c.fill_arguments.ensures in
     record {
       answer =
           accepted (values c.args.signature.now (drop 8 (take (size_at c.args.raw.now) c.args.raw.now)) (drop c.args.cursor.now c.args.fds.now)) c.args.raw.now (drop c.args.cursor.now c.args.fds.now) _ c.args.cursor.now _ c.args.records.now _ _

@@ -8,36 +8,36 @@ use Rattle.wire.specs.Write.{dup_failure, good_texts, message_of}
 use Rattle.wire.proofs.Texts.{descriptors_are}
 use Rattle.wire.proofs.Writing.{measured, duplicable, answer_failed, answer_short, answer_done}
 use Rattle.wire.proofs.write.check_message.Goals as goal
-use Rattle.wire.proofs.write.check_message.Goals.{then-payload-len-size-via-then-payload-len-size, then-payload-len-size-via-else-payload-len-size+then-places-len-count}
+use Rattle.wire.proofs.write.check_message.Goals.{then-payload_len-size-via-then-payload_len-size, then-payload_len-size-via-else-payload_len-size+then-places_len-count}
 
-pub returns-in-err-count : goal.returns-in-err-count
-returns-in-err-count c =
-    let p = err_from_is_err_and c.from-residual-in-err-count.result c.from-residual-in-err-count.ensures.1 in
-    let m = measured (good_texts c.args.msg.now.text.now c.args.msg.now.args.now) (size_of (message_of c.args.msg.now)) c.in-ok-size.size c.in-ok-size.ensures in
+pub returns-in_err-count : goal.returns-in_err-count
+returns-in_err-count c =
+    let p = err_from_is_err_and c.from-residual-in_err-count.result c.from-residual-in_err-count.ensures.1 in
+    let m = measured (good_texts c.args.msg.now.text.now c.args.msg.now.args.now) (size_of (message_of c.args.msg.now)) c.in_ok-size.size c.in_ok-size.ensures in
     rw (p.1, p.2)
-    (sym (answer_failed (good_texts c.args.msg.now.text.now c.args.msg.now.args.now) (message_of c.args.msg.now) c.args.payload-len c.args.places-len (files c.args.book.now)
-    (numbers_in c.args.msg.now.args.now) (descriptors_are c.args.msg.now.text.now c.args.msg.now.args.now) m.0 m.1 _ c.in-err-count.field-0.0 c.in-err-count.ensures))
+    (sym (answer_failed (good_texts c.args.msg.now.text.now c.args.msg.now.args.now) (message_of c.args.msg.now) c.args.payload_len c.args.places_len (files c.args.book.now)
+    (numbers_in c.args.msg.now.args.now) (descriptors_are c.args.msg.now.text.now c.args.msg.now.args.now) m.0 m.1 _ c.in_err-count.field-0.0 c.in_err-count.ensures))
 
-pub returns-then-payload-len-size : goal.returns-then-payload-len-size
-returns-then-payload-len-size c =
-    let m = measured (good_texts c.args.msg.now.text.now c.args.msg.now.args.now) (size_of (message_of c.args.msg.now)) c.in-ok-size.size c.in-ok-size.ensures in
-    let d = duplicable (dup_failure (files c.args.book.now) (numbers - opened (files c.args.book.now)) (numbers_in c.args.msg.now.args.now)) (length (numbers_in c.args.msg.now.args.now)) c.in-ok-count.count c.in-ok-count.ensures in
+pub returns-then-payload_len-size : goal.returns-then-payload_len-size
+returns-then-payload_len-size c =
+    let m = measured (good_texts c.args.msg.now.text.now c.args.msg.now.args.now) (size_of (message_of c.args.msg.now)) c.in_ok-size.size c.in_ok-size.ensures in
+    let d = duplicable (dup_failure (files c.args.book.now) (numbers - opened (files c.args.book.now)) (numbers_in c.args.msg.now.args.now)) (length (numbers_in c.args.msg.now.args.now)) c.in_ok-count.count c.in_ok-count.ensures in
     let size = m.2 in
     let count = d.1 in
-    let short : (c.args.payload-len < size_of (message_of c.args.msg.now)) ⊎ (c.args.places-len < length (numbers_in c.args.msg.now.args.now)) =
-    elim c.then-payload-len-size.branch [
-      | then-payload-len-size-via-then-payload-len-size w ↦ inl (omega (arith, w.if-payload-len-size.true))
-      | then-payload-len-size-via-else-payload-len-size+then-places-len-count w ↦ inr (omega (arith, w.if-places-len-count.true))
+    let short : (c.args.payload_len < size_of (message_of c.args.msg.now)) ⊎ (c.args.places_len < length (numbers_in c.args.msg.now.args.now)) =
+    elim c.then-payload_len-size.branch [
+      | then-payload_len-size-via-then-payload_len-size w ↦ inl (omega (arith, w.if-payload_len-size.true))
+      | then-payload_len-size-via-else-payload_len-size+then-places_len-count w ↦ inr (omega (arith, w.if-places_len-count.true))
     ] in
-    sym (answer_short (good_texts c.args.msg.now.text.now c.args.msg.now.args.now) (message_of c.args.msg.now) c.args.payload-len c.args.places-len (files c.args.book.now)
+    sym (answer_short (good_texts c.args.msg.now.text.now c.args.msg.now.args.now) (message_of c.args.msg.now) c.args.payload_len c.args.places_len (files c.args.book.now)
     (numbers_in c.args.msg.now.args.now) (descriptors_are c.args.msg.now.text.now c.args.msg.now.args.now) m.0 m.1 d.0 short)
 
 pub returns : goal.returns
 returns c =
-    let m = measured (good_texts c.args.msg.now.text.now c.args.msg.now.args.now) (size_of (message_of c.args.msg.now)) c.in-ok-size.size c.in-ok-size.ensures in
-    let d = duplicable (dup_failure (files c.args.book.now) (numbers - opened (files c.args.book.now)) (numbers_in c.args.msg.now.args.now)) (length (numbers_in c.args.msg.now.args.now)) c.in-ok-count.count c.in-ok-count.ensures in
+    let m = measured (good_texts c.args.msg.now.text.now c.args.msg.now.args.now) (size_of (message_of c.args.msg.now)) c.in_ok-size.size c.in_ok-size.ensures in
+    let d = duplicable (dup_failure (files c.args.book.now) (numbers - opened (files c.args.book.now)) (numbers_in c.args.msg.now.args.now)) (length (numbers_in c.args.msg.now.args.now)) c.in_ok-count.count c.in_ok-count.ensures in
     let size = m.2 in
     let count = d.1 in
     ap Ok m.2
-    ∙ sym (answer_done (good_texts c.args.msg.now.text.now c.args.msg.now.args.now) (message_of c.args.msg.now) c.args.payload-len c.args.places-len (files c.args.book.now)
+    ∙ sym (answer_done (good_texts c.args.msg.now.text.now c.args.msg.now.args.now) (message_of c.args.msg.now) c.args.payload_len c.args.places_len (files c.args.book.now)
     (numbers_in c.args.msg.now.args.now) (descriptors_are c.args.msg.now.text.now c.args.msg.now.args.now) m.0 m.1 d.0 (omega arith) (omega arith))

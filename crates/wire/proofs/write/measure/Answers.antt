@@ -8,16 +8,16 @@ use Rattle.wire.specs.Write.{good_texts, largest}
 use Rattle.wire.proofs.Texts.{good_more, good_not, good_lengths, length_more}
 use Rattle.wire.proofs.write.measure.Goals as goal
 
-pub returns-then-not-good-text : goal.returns-then-not-good-text
-returns-then-not-good-text c =
-    sym (cond-false _ _ _ (sym c.loop-argument.invariant.0 ∙ good_not c.args.text.now c.args.args.now c.loop-argument.argument-index (Int (pos 0)) (omega arith) (sym c.if-not-good-text.ensures)))
+pub returns-then-not-good_text : goal.returns-then-not-good_text
+returns-then-not-good_text c =
+    sym (cond-false _ _ _ (sym c.loop-argument.invariant.0 ∙ good_not c.args.text.now c.args.args.now c.loop-argument.argument-index (Int (pos 0)) (omega arith) (sym c.if-not-good_text.ensures)))
 
 pub loop-argument-preserved : goal.loop-argument-preserved
 loop-argument-preserved c =
     let l = length_more c.args.text.now c.args.args.now c.loop-argument.argument-index (Int (pos 0)) (omega arith) in (
-      sym (good_more c.args.text.now c.args.args.now c.loop-argument.argument-index (Int (pos 0)) (omega arith) (sym c.if-not-good-text.ensures)) ∙ c.loop-argument.invariant.0,
-      omega (arith, c.field-len.ensures, c.saturating-add-size.ensures, c.loop-argument.invariant.1),
-      omega (arith, c.saturating-add-size.ensures),
+      sym (good_more c.args.text.now c.args.args.now c.loop-argument.argument-index (Int (pos 0)) (omega arith) (sym c.if-not-good_text.ensures)) ∙ c.loop-argument.invariant.0,
+      omega (arith, c.field_len.ensures, c.saturating_add-size.ensures, c.loop-argument.invariant.1),
+      omega (arith, c.saturating_add-size.ensures),
     )
 
 -- at the end every text is good, and the size is the size of the frame

@@ -26,14 +26,14 @@ pub returns-in-NullStr : goal.returns-in-NullStr
 returns-in-NullStr c =
     let l = ap field_length c.in-NullStr.is in
     record {
-      laid = word_laid c.args.at 0 _ c.args.payload.now _ (omega (arith, c.requires.room)) (ap (field_of c.args.text.now) c.in-NullStr.is) c.put-word.ensures;
+      laid = word_laid c.args.at 0 _ c.args.payload.now _ (omega (arith, c.requires.room)) (ap (field_of c.args.text.now) c.in-NullStr.is) c.put_word.ensures;
       carries = subst (CarriesIn c.args.text.now) (sym c.in-NullStr.is) tt;
     }
 
 pub returns-in-Str : goal.returns-in-Str
 returns-in-Str c = record {
   laid =
-      c.put-string.ensures
+      c.put_string.ensures
       ∙ ap (λ (n : ℕ). lay c.args.at (block (take n (drop c.in-Str.t.place c.args.text.now) ++ 0 ∷ [])) c.args.payload.now) (omega arith)
       ∙ sym (ap (laid_as c.args.at c.args.text.now c.args.payload.now) c.in-Str.is);
   carries = subst (CarriesIn c.args.text.now) (sym c.in-Str.is) (and_parts _ _ (sym (ap (good_text c.args.text.now) c.in-Str.is) ∙ c.requires.good)).1;
@@ -42,7 +42,7 @@ returns-in-Str c = record {
 pub returns-in-Array : goal.returns-in-Array
 returns-in-Array c = record {
   laid =
-      c.put-array.ensures
+      c.put_array.ensures
       ∙ ap (λ (n : ℕ). lay c.args.at (block (take n (drop c.in-Array.t.place c.args.text.now))) c.args.payload.now) (omega arith)
       ∙ sym (ap (laid_as c.args.at c.args.text.now c.args.payload.now) c.in-Array.is);
   carries = subst (CarriesIn c.args.text.now) (sym c.in-Array.is) tt;
@@ -59,9 +59,9 @@ returns-in-Int c =
     let l : field_length c.args.argument.now ≡ 4 = ⊎_elim (λ e. ap field_length e) (λ e. ap field_length e) c.in-Int.is in
     let f : field_of c.args.text.now c.args.argument.now ≡ known (word (of_z w32 c.in-Int.n)) = ⊎_elim (λ e. ap (field_of c.args.text.now) e) (λ e. ap (field_of c.args.text.now) e) c.in-Int.is in
     let s : SFits w32 c.in-Int.n = search rules in
-    let bits : of_z w32 c.in-Int.n ≡ c.cast-unsigned.result = grind (arith, to_z-of_z) in
+    let bits : of_z w32 c.in-Int.n ≡ c.cast_unsigned.result = grind (arith, to_z-of_z) in
     record {
-      laid = word_laid c.args.at c.cast-unsigned.result _ c.args.payload.now _ (omega (arith, c.requires.room)) (f ∙ ap (λ (n : ℕ). known (word n)) bits) c.put-word-in-Int.ensures;
+      laid = word_laid c.args.at c.cast_unsigned.result _ c.args.payload.now _ (omega (arith, c.requires.room)) (f ∙ ap (λ (n : ℕ). known (word n)) bits) c.put_word-in-Int.ensures;
       carries = ⊎_elim (λ e. subst (CarriesIn c.args.text.now) (sym e) s) (λ e. subst (CarriesIn c.args.text.now) (sym e) s) c.in-Int.is;
     }
 
@@ -71,6 +71,6 @@ returns-in-Uint c =
     let f : field_of c.args.text.now c.args.argument.now ≡ known (word c.in-Uint.n) = ⊎_elim (λ e. ap (field_of c.args.text.now) e) (⊎_elim (λ e. ap (field_of c.args.text.now) e) (λ e. ap (field_of c.args.text.now) e)) c.in-Uint.is in
     let s : c.in-Uint.n < 2 ^ 32 = search rules in
     record {
-      laid = word_laid c.args.at c.in-Uint.n _ c.args.payload.now _ (omega (arith, c.requires.room)) f c.put-word-in-Uint.ensures;
+      laid = word_laid c.args.at c.in-Uint.n _ c.args.payload.now _ (omega (arith, c.requires.room)) f c.put_word-in-Uint.ensures;
       carries = ⊎_elim (λ e. subst (CarriesIn c.args.text.now) (sym e) s) (⊎_elim (λ e. subst (CarriesIn c.args.text.now) (sym e) s) (λ e. subst (CarriesIn c.args.text.now) (sym e) s)) c.in-Uint.is;
     }

@@ -33,7 +33,7 @@ moved all fs old ns a b i j x y e d f p =
     subst (λ (v : Book). Placing all fs old ns (files v) j y) (sym e) (subst (λ (v : ℕ). Placing all fs old ns (files a) v y) (sym d) (subst (λ (v : List OwnedFd). Placing all fs old ns (files a) i v) (sym f) p))
 
 pub loop-argument-preserved : goal.loop-argument-preserved
-loop-argument-preserved c = elim c.match-fd-of.branch [
+loop-argument-preserved c = elim c.match-fd_of.branch [
   | in-Some+in-Ok w ↦
       (let m = numbers_here c.args.args.now c.loop-argument.argument-index (Int (pos 0)) (omega arith) w.in-Some.fd w.in-Some.ensures in
       let k = ap length m in

@@ -9,13 +9,13 @@ use Rattle.wire.proofs.Texts.{descriptors_are}
 use Rattle.wire.proofs.Writing.{admitted}
 use Rattle.wire.proofs.write.put_message.Goals as goal
 
-pub put-frame-requires : goal.put-frame-requires
-put-frame-requires c =
+pub put_frame-requires : goal.put_frame-requires
+put_frame-requires c =
     let a = admitted (good_texts c.args.msg.now.text.now c.args.msg.now.args.now) (message_of c.args.msg.now) (length c.args.payload.now) (length c.args.places.now) (files c.args.book.now) c.args.size c.requires in
     record { good = a.good; sized = a.size; small = omega (arith, a.small, a.size); room = omega (arith, a.bytes, a.size) }
 
-pub put-duplicates-requires : goal.put-duplicates-requires
-put-duplicates-requires c =
+pub put_duplicates-requires : goal.put_duplicates-requires
+put_duplicates-requires c =
     let a = admitted (good_texts c.args.msg.now.text.now c.args.msg.now.args.now) (message_of c.args.msg.now) (length c.args.payload.now) (length c.args.places.now) (files c.args.book.now) c.args.size c.requires in
     let e = descriptors_are c.args.msg.now.text.now c.args.msg.now.args.now in
     record {
@@ -26,11 +26,11 @@ put-duplicates-requires c =
 pub returns : goal.returns
 returns c =
     let a = admitted (good_texts c.args.msg.now.text.now c.args.msg.now.args.now) (message_of c.args.msg.now) (length c.args.payload.now) (length c.args.places.now) (files c.args.book.now) c.args.size c.requires in
-    let placed = subst (λ (ns : List RawFd). Placed ns c.args.places.now (files c.args.book.now) c.put-duplicates.new.places (files c.put-duplicates.new.book)) (sym (descriptors_are c.args.msg.now.text.now c.args.msg.now.args.now)) c.put-duplicates.ensures in
+    let placed = subst (λ (ns : List RawFd). Placed ns c.args.places.now (files c.args.book.now) c.put_duplicates.new.places (files c.put_duplicates.new.book)) (sym (descriptors_are c.args.msg.now.text.now c.args.msg.now.args.now)) c.put_duplicates.ensures in
     record {
-      stored = record { bytes = c.put-frame.ensures.laid; fds = placed };
+      stored = record { bytes = c.put_frame.ensures.laid; fds = placed };
       readback = λ ts room rest more h r.
-          read_back ts room (message_of c.args.msg.now) c.args.size c.args.payload.now c.put-frame.new.payload c.args.places.now c.put-duplicates.new.places rest more (files c.args.book.now) (files c.put-duplicates.new.book)
-          a.size c.put-frame.ensures.laid (matching_typed c.args.msg.now.text.now ts c.args.msg.now.args.now h c.put-frame.ensures.carries.1.1)
-          c.put-frame.ensures.carries.0 c.put-frame.ensures.carries.1.0 a.small a.bytes (files_length c.args.book.now) placed r;
+          read_back ts room (message_of c.args.msg.now) c.args.size c.args.payload.now c.put_frame.new.payload c.args.places.now c.put_duplicates.new.places rest more (files c.args.book.now) (files c.put_duplicates.new.book)
+          a.size c.put_frame.ensures.laid (matching_typed c.args.msg.now.text.now ts c.args.msg.now.args.now h c.put_frame.ensures.carries.1.1)
+          c.put_frame.ensures.carries.0 c.put_frame.ensures.carries.1.0 a.small a.bytes (files_length c.args.book.now) placed r;
     }

@@ -8,8 +8,8 @@ use Rattle.book.proofs.Counts.{none_from_one}
 use Rattle.book.proofs.Entries.{entered, sound, sound_pop}
 use Rattle.book.proofs.table.Book.enter.Goals as goal
 
-pub invariant-of-self : goal.invariant-of-self
-invariant-of-self c =
+pub invariant_of-self : goal.invariant_of-self
+invariant_of-self c =
     let b = c.args.self.now in
     sound_pop b.entries b.free b.free_len c.args.file (sound b) (omega arith)
 

@@ -14,14 +14,14 @@ room b n o = sound_open b.entries b.free b.free_len n (sound b) o
 pub bounds-self-fd : goal.bounds-self-fd
 bounds-self-fd c = (room c.args.self.now c.args.fd.0 c.requires).0
 
-pub overflow-cast-self : goal.overflow-cast-self
-overflow-cast-self c = omega (arith, (room c.args.self.now c.args.fd.0 c.requires).0)
+pub overflow_cast-self : goal.overflow_cast-self
+overflow_cast-self c = omega (arith, (room c.args.self.now c.args.fd.0 c.requires).0)
 
 pub bounds-self-self : goal.bounds-self-self
 bounds-self-self c = (room c.args.self.now c.args.fd.0 c.requires).1
 
-pub invariant-of-self : goal.invariant-of-self
-invariant-of-self c =
+pub invariant_of-self : goal.invariant_of-self
+invariant_of-self c =
     let b = c.args.self.now in
     sound_push b.entries b.free b.free_len c.args.fd.0 (sound b) c.requires
 

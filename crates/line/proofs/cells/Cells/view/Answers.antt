@@ -14,6 +14,6 @@ returns-then-place-self c =
 
 pub returns : goal.returns
 returns c =
-    ap (λ (b : ℕ). Some (view b c.fds-at.result)) (c.at.ensures 0)
-    ∙ ap (λ (k : ℕ). Some (view (get_or (bytes_in c.args.self.now) c.args.place 0) k)) c.fds-at.ensures
+    ap (λ (b : ℕ). Some (view b c.fds_at.result)) (c.at.ensures 0)
+    ∙ ap (λ (k : ℕ). Some (view (get_or (bytes_in c.args.self.now) c.args.place 0) k)) c.fds_at.ensures
     ∙ seen_from (bytes_in c.args.self.now) (counts_in c.args.self.now.marks) (fds_in c.args.self.now) c.args.place (counts_length limits.descriptors c.args.self.now c.requires) (counts_sum limits.descriptors c.args.self.now c.requires) (omega arith)

@@ -13,6 +13,6 @@ returns c =
       holds = (c.requires.0.0, (omega arith, c.requires.0.1.1, omega arith));
       gone =
           gone_one limits (held_bytes c.args.self.now) (get_or c.args.self.now.bytes c.args.self.now.first 0) (take (c.args.self.now.end - (c.args.self.now.first + 1)) (drop (c.args.self.now.first + 1) c.args.self.now.bytes))
-          (held_fds c.args.self.now) c.args.bytes.now c.args.fds.now c.copy-from-slice.new.self c.args.self.now.fds_len
-          (bytes_first limits c.args.self.now c.requires.0 h) c.requires.1.0 (sym (length-take-le c.args.self.now.fds_len c.args.self.now.fds (omega (arith, c.requires.0.0.1, c.requires.0.1.2)))) c.requires.0.1.2 c.copy-from-slice.ensures.after;
+          (held_fds c.args.self.now) c.args.bytes.now c.args.fds.now c.copy_from_slice.new.self c.args.self.now.fds_len
+          (bytes_first limits c.args.self.now c.requires.0 h) c.requires.1.0 (sym (length-take-le c.args.self.now.fds_len c.args.self.now.fds (omega (arith, c.requires.0.0.1, c.requires.0.1.2)))) c.requires.0.1.2 c.copy_from_slice.ensures.after;
     }

@@ -9,10 +9,10 @@ use Rattle.line.proofs.held.Held.put.Goals as goal
 pub returns : goal.returns
 returns c =
     let e = empty_open limits (held_bytes c.args.self.now) (held_fds c.args.self.now) (length c.args.bytes.now) c.requires.1.0 c.requires.1.1.0 in
-    let bs : List ℕ = c.copy-from-slice.new.self ++ drop (length c.args.bytes.now) c.args.self.now.bytes in
-    let fs : List OwnedFd = c.copy-from-slice-2.new.self ++ drop (length c.args.fds.now) c.args.self.now.fds in
-    let bs-is : bs ≡ c.args.bytes.now ++ drop (length c.args.bytes.now) c.args.self.now.bytes = ap (λ (y : List ℕ). y ++ drop (length c.args.bytes.now) c.args.self.now.bytes) c.copy-from-slice.ensures.after in
-    let fs-is : fs ≡ c.args.fds.now ++ drop (length c.args.fds.now) c.args.self.now.fds = ap (λ (y : List OwnedFd). y ++ drop (length c.args.fds.now) c.args.self.now.fds) c.copy-from-slice-2.ensures.after in
+    let bs : List ℕ = c.copy_from_slice.new.self ++ drop (length c.args.bytes.now) c.args.self.now.bytes in
+    let fs : List OwnedFd = c.copy_from_slice-2.new.self ++ drop (length c.args.fds.now) c.args.self.now.fds in
+    let bs-is : bs ≡ c.args.bytes.now ++ drop (length c.args.bytes.now) c.args.self.now.bytes = ap (λ (y : List ℕ). y ++ drop (length c.args.bytes.now) c.args.self.now.bytes) c.copy_from_slice.ensures.after in
+    let fs-is : fs ≡ c.args.fds.now ++ drop (length c.args.fds.now) c.args.self.now.fds = ap (λ (y : List OwnedFd). y ++ drop (length c.args.fds.now) c.args.self.now.fds) c.copy_from_slice-2.ensures.after in
     let z : length c.args.bytes.now - 0 ≡ length c.args.bytes.now = omega arith in
     let long-bytes = laid_length c.args.bytes.now c.args.self.now.bytes bs bs-is (omega (arith, e.1, c.requires.0.0.0)) in
     let long-fds = laid_length c.args.fds.now c.args.self.now.fds fs fs-is (omega (arith, c.requires.1.1.1, c.requires.0.0.1)) in

@@ -22,8 +22,8 @@ returns-then-left-mark-2 c =
     ∙ sym (here (marks_in c.args.self.now) c.args.self.now.tail c.loop-i.i c.loop-i.left c.at-mark.result (omega arith) (c.at-mark.ensures c.at-mark.result))
     ∙ sym c.loop-i.invariant.1
 
-pub overflow-add-left : goal.overflow-add-left
-overflow-add-left c = omega (arith, c.loop-i.invariant.0, c.if-left-mark.false, c.if-left-mark-2.false)
+pub overflow_add-left : goal.overflow_add-left
+overflow_add-left c = omega (arith, c.loop-i.invariant.0, c.if-left-mark.false, c.if-left-mark-2.false)
 
 pub loop-i-preserved : goal.loop-i-preserved
 loop-i-preserved c = (

@@ -6,8 +6,8 @@ use Rattle.line.specs.declared.marks.Mark.{Mark}
 use Rattle.line.proofs.Marking.{length_counts, counts_push, carrying_push, carrying_length, noted_plain}
 use Rattle.line.proofs.marks.Marks.note.Goals as goal
 
-pub overflow-add-self : goal.overflow-add-self
-overflow-add-self c = omega (arith, length_counts (marks_in c.args.self.now) c.args.self.now.tail)
+pub overflow_add-self : goal.overflow_add-self
+overflow_add-self c = omega (arith, length_counts (marks_in c.args.self.now) c.args.self.now.tail)
 
 pub put-self-requires : goal.put-self-requires
 put-self-requires c =

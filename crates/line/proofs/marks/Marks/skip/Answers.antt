@@ -24,9 +24,9 @@ returns c =
     let first : Mark = c.at-first.result in
     let left : List Mark = drop (0 + 1) (marks_in c.args.self.now) in
     let is : marks_in c.args.self.now ≡ first ∷ left = next_mark (marks_in c.args.self.now) 0 first (omega arith) (c.at-first.ensures first) in
-    let now : ◌≡◌ {A = List Mark} _ (shorter c.min-plain-2.result first ∷ left) = c.set-first.ensures.after ∙ ap (λ (y : List Mark). set y 0 (shorter c.min-plain-2.result first)) is in
+    let now : ◌≡◌ {A = List Mark} _ (shorter c.min-plain-2.result first ∷ left) = c.set_first.ensures.after ∙ ap (λ (y : List Mark). set y 0 (shorter c.min-plain-2.result first)) is in
     record {
-      marked = (omega arith, c.set-first.ensures.sound, subst (λ (y : List Mark). carrying limits.descriptors y ≡ true) (sym now) (subst (λ (y : List Mark). carrying limits.descriptors y ≡ true) is c.requires.2));
+      marked = (omega arith, c.set_first.ensures.sound, subst (λ (y : List Mark). carrying limits.descriptors y ≡ true) (sym now) (subst (λ (y : List Mark). carrying limits.descriptors y ≡ true) is c.requires.2));
       count = c.min-plain-2.ensures ∙ ap (λ (y : List Mark). min c.args.n (plain y c.args.self.now.tail)) (sym is);
       after =
           ap (λ (y : List Mark). counts y c.args.self.now.tail) now

@@ -7,8 +7,8 @@ pub returns : goal.returns
 returns g c =
     let l : c.args.span.len + length c.args.new.now ≤ length c.args.slots.now = omega arith in
     record {
-      sound = sound c.write-around.new.slots _ (omega arith) (omega arith);
+      sound = sound c.write_around.new.slots _ (omega arith) (omega arith);
       after =
-          ap (λ (s : List g.row.T.Denot). held s c.args.span.head (c.args.span.len + length c.args.new.now)) c.write-around.ensures
+          ap (λ (s : List g.row.T.Denot). held s c.args.span.head (c.args.span.len + length c.args.new.now)) c.write_around.ensures
           ∙ queued_on (length c.args.slots.now) c.args.slots.now c.args.span.head refl c.requires.0.0 c.args.span.len c.slot-tail.result c.args.new.now l c.slot-tail.ensures.is;
     }

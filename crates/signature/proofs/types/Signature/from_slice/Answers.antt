@@ -2,9 +2,9 @@ use Rattle.std.proofs.Common.{Some, sym, ap, ◌∙◌, arith}
 use Rattle.signature.proofs.Few.{at_most_all, length_copied, take_copied}
 use Rattle.signature.proofs.types.Signature.from_slice.Goals as goal
 
-pub invariant-of-result : goal.invariant-of-result
-invariant-of-result c = ((omega arith, length_copied _ _ c.args.list.now c.copy-from-slice.ensures.after (omega arith)), tt)
+pub invariant_of-result : goal.invariant_of-result
+invariant_of-result c = ((omega arith, length_copied _ _ c.args.list.now c.copy_from_slice.ensures.after (omega arith)), tt)
 
 pub returns : goal.returns
 returns c =
-    ap Some (take_copied _ _ c.args.list.now c.copy-from-slice.ensures.after (omega arith)) ∙ sym (at_most_all 20 c.args.list.now (omega arith))
+    ap Some (take_copied _ _ c.args.list.now c.copy_from_slice.ensures.after (omega arith)) ∙ sym (at_most_all 20 c.args.list.now (omega arith))
