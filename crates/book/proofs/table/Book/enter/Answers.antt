@@ -11,7 +11,8 @@ use Rattle.book.proofs.table.Book.enter.Goals as goal
 pub invariant_of-self : goal.invariant_of-self
 invariant_of-self c =
     let b = c.args.self.now in
-    sound_pop b.entries b.free b.free_len c.args.file (sound b) (omega arith)
+    let s = sound_pop b.entries b.free b.free_len c.args.file (sound b) (omega arith) in
+    record { sized = s.0; counted = s.1.0; unused = s.1.1.0; distinct = s.1.1.1.0 }
 
 pub returns : goal.returns
 returns c =

@@ -23,7 +23,8 @@ bounds-self-self c = (room c.args.self.now c.args.fd.0 c.requires).1
 pub invariant_of-self : goal.invariant_of-self
 invariant_of-self c =
     let b = c.args.self.now in
-    sound_push b.entries b.free b.free_len c.args.fd.0 (sound b) c.requires
+    let s = sound_push b.entries b.free b.free_len c.args.fd.0 (sound b) c.requires in
+    record { sized = s.0; counted = s.1.0; unused = s.1.1.0; distinct = s.1.1.1.0 }
 
 pub returns : goal.returns
 returns c =

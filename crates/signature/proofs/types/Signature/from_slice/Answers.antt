@@ -3,7 +3,7 @@ use Rattle.signature.proofs.Few.{at_most_all, length_copied, take_copied}
 use Rattle.signature.proofs.types.Signature.from_slice.Goals as goal
 
 pub invariant_of-result : goal.invariant_of-result
-invariant_of-result c = ((omega arith, length_copied _ _ c.args.list.now c.copy_from_slice.ensures.after (omega arith)), tt)
+invariant_of-result c = record { ok = (omega arith, length_copied _ _ c.args.list.now c.copy_from_slice.ensures.after (omega arith)) }
 
 pub returns : goal.returns
 returns c =
