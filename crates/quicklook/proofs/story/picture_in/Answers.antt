@@ -11,7 +11,7 @@ returns-in-Fd c =
 
 pub loop-record-preserved : goal.loop-record-preserved
 loop-record-preserved c =
-    sym (first_later c.args.records.now c.loop-record.record-index _ c.loop-record-test.true c.in-default.not-Fd) ∙ c.loop-record.invariant
+    sym (first_later c.args.records.now c.loop-record.record-index _ c.loop-record-test.true c.in_default.not-Fd) ∙ c.loop-record.invariant
 
 pub returns : goal.returns
 returns c = sym (at_drop_all (λ l. first (numbers_in l)) c.args.records.now c.loop-record.record-index c.loop-record-test.false) ∙ c.loop-record.invariant

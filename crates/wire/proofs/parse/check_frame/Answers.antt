@@ -21,42 +21,42 @@ at_refusal room ts raw xs why h e = record { checked = e; reads = reads_frames r
 
 pub returns-then-raw-lt8 : goal.returns-then-raw-lt8
 returns-then-raw-lt8 c =
-    at_refusal c.args.room c.args.signature.now c.args.raw.now (drop c.args.cursor c.args.fds.now) _ (λ k. (c.type-inv.raw k).fits)
+    at_refusal c.args.room c.args.signature.now c.args.raw.now (drop c.args.cursor c.args.fds.now) _ (λ k. (c.type_inv.raw k).fits)
     (no_header c.args.room c.args.signature.now c.args.raw.now (drop c.args.cursor c.args.fds.now) (omega arith))
 
 pub returns-then-size-lt8 : goal.returns-then-size-lt8
 returns-then-size-lt8 c =
     let s = size_is c.header_of-header.result c.args.raw.now c.header_of-header.ensures in
-    at_refusal c.args.room c.args.signature.now c.args.raw.now (drop c.args.cursor c.args.fds.now) _ (λ k. (c.type-inv.raw k).fits)
+    at_refusal c.args.room c.args.signature.now c.args.raw.now (drop c.args.cursor c.args.fds.now) _ (λ k. (c.type_inv.raw k).fits)
     (size_small c.args.room c.args.signature.now c.args.raw.now (drop c.args.cursor c.args.fds.now) (omega arith) (omega arith))
 
 pub returns-then-size-raw : goal.returns-then-size-raw
 returns-then-size-raw c =
     let s = size_is c.header_of-header.result c.args.raw.now c.header_of-header.ensures in
-    at_refusal c.args.room c.args.signature.now c.args.raw.now (drop c.args.cursor c.args.fds.now) _ (λ k. (c.type-inv.raw k).fits)
+    at_refusal c.args.room c.args.signature.now c.args.raw.now (drop c.args.cursor c.args.fds.now) _ (λ k. (c.type_inv.raw k).fits)
     (not_whole c.args.room c.args.signature.now c.args.raw.now (drop c.args.cursor c.args.fds.now) (omega arith) (omega arith) (omega arith))
 
 pub returns-then-saturating_sub-fd_count : goal.returns-then-saturating_sub-fd_count
 returns-then-saturating_sub-fd_count c =
     let s = size_is c.header_of-header.result c.args.raw.now c.header_of-header.ensures in
-    at_refusal c.args.room c.args.signature.now c.args.raw.now (drop c.args.cursor c.args.fds.now) _ (λ k. (c.type-inv.raw k).fits)
+    at_refusal c.args.room c.args.signature.now c.args.raw.now (drop c.args.cursor c.args.fds.now) _ (λ k. (c.type_inv.raw k).fits)
     (fds_missing c.args.room c.args.signature.now c.args.raw.now (drop c.args.cursor c.args.fds.now) (omega arith, omega arith, omega arith)
-    (simp length-drop (omega (arith, c.fds_counted.ensures))))
+    (simp length-drop (omega (arith, c.fd_count.ensures))))
 
 pub returns-then-room-signature : goal.returns-then-room-signature
 returns-then-room-signature c =
     let s = size_is c.header_of-header.result c.args.raw.now c.header_of-header.ensures in
-    at_refusal c.args.room c.args.signature.now c.args.raw.now (drop c.args.cursor c.args.fds.now) _ (λ k. (c.type-inv.raw k).fits)
+    at_refusal c.args.room c.args.signature.now c.args.raw.now (drop c.args.cursor c.args.fds.now) _ (λ k. (c.type_inv.raw k).fits)
     (room_small c.args.room c.args.signature.now c.args.raw.now (drop c.args.cursor c.args.fds.now) (omega arith, omega arith, omega arith)
-    (simp length-drop (omega (arith, c.fds_counted.ensures))) (omega arith))
+    (simp length-drop (omega (arith, c.fd_count.ensures))) (omega arith))
 
 pub returns-then-not-arguments_fit : goal.returns-then-not-arguments_fit
 returns-then-not-arguments_fit c =
     let s = size_is c.header_of-header.result c.args.raw.now c.header_of-header.ensures in
-    at_refusal c.args.room c.args.signature.now c.args.raw.now (drop c.args.cursor c.args.fds.now) _ (λ k. (c.type-inv.raw k).fits)
+    at_refusal c.args.room c.args.signature.now c.args.raw.now (drop c.args.cursor c.args.fds.now) _ (λ k. (c.type_inv.raw k).fits)
     (arguments_bad c.args.signature.now c.args.raw.now (drop c.args.cursor c.args.fds.now) _
     (after_checks c.args.room c.args.signature.now c.args.raw.now (drop c.args.cursor c.args.fds.now) (omega arith, omega arith, omega arith)
-    (simp length-drop (omega (arith, c.fds_counted.ensures))) (omega arith))
+    (simp length-drop (omega (arith, c.fd_count.ensures))) (omega arith))
     (fit_at false c.args.signature.now c.args.raw.now (drop c.args.cursor c.args.fds.now) _ _ s c.if-not-arguments_fit.ensures))
 
 pub returns : goal.returns
@@ -71,8 +71,8 @@ returns c =
         fit = sym (fit_at true c.args.signature.now c.args.raw.now (drop c.args.cursor c.args.fds.now) _ _ s c.if-not-arguments_fit.ensures);
         answer =
             after_checks c.args.room c.args.signature.now c.args.raw.now (drop c.args.cursor c.args.fds.now) (omega arith, omega arith, omega arith)
-            (simp length-drop (omega (arith, c.fds_counted.ensures))) (omega arith);
+            (simp length-drop (omega (arith, c.fd_count.ensures))) (omega arith);
       };
       reads = reads_frames c.args.room c.args.signature.now c.args.raw.now (drop c.args.cursor c.args.fds.now);
-      gives = gives_frames c.args.room c.args.signature.now c.args.raw.now (drop c.args.cursor c.args.fds.now) (λ k. (c.type-inv.raw k).fits);
+      gives = gives_frames c.args.room c.args.signature.now c.args.raw.now (drop c.args.cursor c.args.fds.now) (λ k. (c.type_inv.raw k).fits);
     }

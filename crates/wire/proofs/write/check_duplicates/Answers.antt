@@ -9,7 +9,7 @@ use Rattle.wire.specs.Records.{numbers_in}
 use Rattle.wire.specs.Write.{dup_failure, unless_failed}
 use Rattle.wire.proofs.Copies.{numbers_here, numbers_none, check_missing, check_full, check_more}
 use Rattle.wire.proofs.write.check_duplicates.Goals as goal
-use Rattle.wire.proofs.write.check_duplicates.Goals.{in-Some+else-is_err+else-count-free, in-default}
+use Rattle.wire.proofs.write.check_duplicates.Goals.{in-Some+else-is_err+else-count-free, in_default}
 
 -- the answer, from what is left and what the loop knows of it
 answered : (f g : Option ℕ) (free all : ℕ) (fs : Files) (ns : List RawFd) (r : Result ℕ Refusal) → free + opened fs ≡ numbers → f ≡ dup_failure fs free ns → g ≡ f → r ≡ unless_failed g (Ok all)
@@ -44,8 +44,8 @@ loop-argument-preserved c = elim c.match-fd_of.branch [
         omega (arith, w.count-is, c.loop-argument.invariant.1),
         omega (arith, w.count-is, c.loop-argument.invariant.2),
       ))
-  | in-default w ↦
-      (let m = numbers_none c.args.args.now c.loop-argument.argument-index (Int (pos 0)) (omega arith) w.in-default.ensures in
+  | in_default w ↦
+      (let m = numbers_none c.args.args.now c.loop-argument.argument-index (Int (pos 0)) (omega arith) w.in_default.ensures in
       let k = ap length m in (
         ap (λ (n : ℕ). dup_failure (files c.args.book.now) (c.free_numbers-free.result - n) (numbers_in (drop (c.loop-argument.argument-index + 1) c.args.args.now))) w.count-is
             ∙ sym (ap (dup_failure (files c.args.book.now) (c.free_numbers-free.result - c.loop-argument.count)) m)

@@ -12,7 +12,7 @@ use Rattle.wire.proofs.write.check_message.Goals.{then-payload_len-size-via-then
 
 pub returns-in_err-count : goal.returns-in_err-count
 returns-in_err-count c =
-    let p = err_from_is_err_and c.from-residual-in_err-count.result c.from-residual-in_err-count.ensures.1 in
+    let p = err_from_is_err_and c.from_residual-in_err-count.result c.from_residual-in_err-count.ensures.1 in
     let m = measured (good_texts c.args.msg.now.text.now c.args.msg.now.args.now) (size_of (message_of c.args.msg.now)) c.in_ok-size.size c.in_ok-size.ensures in
     rw (p.1, p.2)
     (sym (answer_failed (good_texts c.args.msg.now.text.now c.args.msg.now.args.now) (message_of c.args.msg.now) c.args.payload_len c.args.places_len (files c.args.book.now)

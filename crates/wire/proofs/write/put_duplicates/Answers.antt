@@ -11,7 +11,7 @@ use Rattle.wire.specs.Records.{numbers_in}
 use Rattle.wire.proofs.Copies.{numbers_here, numbers_none}
 use Rattle.wire.proofs.Placing.{Placing, placing_none, placing_same, placing_more, placing_refused, placing_all}
 use Rattle.wire.proofs.write.put_duplicates.Goals as goal
-use Rattle.wire.proofs.write.put_duplicates.Goals.{in-Some+in-Ok, in-default}
+use Rattle.wire.proofs.write.put_duplicates.Goals.{in-Some+in-Ok, in_default}
 
 pub loop-argument-init : goal.loop-argument-init
 loop-argument-init c = placing_none (numbers_in c.args.args.now) (files c.args.book.now) c.args.places.now c.requires.can
@@ -41,9 +41,9 @@ loop-argument-preserved c = elim c.match-fd_of.branch [
       (placing_more (numbers_in c.args.args.now) (files c.args.book.now) c.args.places.now w.in-Some.fd (numbers_in (drop (c.loop-argument.argument-index + 1) c.args.args.now)) (files c.loop-argument.book) c.loop-argument.count c.loop-argument.places
       (placing_same _ _ _ _ _ (files c.loop-argument.book) c.loop-argument.count c.loop-argument.places m c.loop-argument.invariant)
       (files w.duplicate.new.self) w.in-Ok.new w.in-Ok.ensures.duplicates (files_length c.loop-argument.book) (omega (arith, c.loop-argument.invariant.rest, c.requires.room))))
-  | in-default w ↦
+  | in_default w ↦
       moved _ _ _ _ _ _ _ _ _ _ w.book-is w.count-is w.places-is
-      (placing_same _ _ _ _ _ (files c.loop-argument.book) c.loop-argument.count c.loop-argument.places (numbers_none c.args.args.now c.loop-argument.argument-index (Int (pos 0)) (omega arith) w.in-default.ensures) c.loop-argument.invariant)
+      (placing_same _ _ _ _ _ (files c.loop-argument.book) c.loop-argument.count c.loop-argument.places (numbers_none c.args.args.now c.loop-argument.argument-index (Int (pos 0)) (omega arith) w.in_default.ensures) c.loop-argument.invariant)
 ]
 
 pub returns : goal.returns
