@@ -1,6 +1,7 @@
 // Answers as text.
 use book::Book;
 use protocol::{OwnedFd, Refusal};
+use std::alloc::AllocError;
 use std::fmt;
 use wire::ArgumentView;
 
@@ -65,14 +66,18 @@ impl fmt::Display for Mark {
 }
 
 // A refusal with the code of a failed duplication.
-pub(crate) fn add_refusal(out: &mut String, refusal: Refusal) -> fmt::Result {
+pub(crate) fn add_refusal(out: &mut String, refusal: Refusal) -> Result<(), AllocError> {
     match refusal {
         Refusal::DupFailed(code) => write!(out, "{refusal} {code}"),
         _ => write!(out, "{refusal}"),
     }
 }
 
-pub(crate) fn add_argument(out: &mut String, book: &Book, argument: ArgumentView) -> fmt::Result {
+pub(crate) fn add_argument(
+    out: &mut String,
+    book: &Book,
+    argument: ArgumentView,
+) -> Result<(), AllocError> {
     match argument {
         ArgumentView::Int(n) => write!(out, " i:{n}"),
         ArgumentView::Uint(n) => write!(out, " u:{n}"),
@@ -87,7 +92,7 @@ pub(crate) fn add_argument(out: &mut String, book: &Book, argument: ArgumentView
 }
 
 // The marks of duplicates, as `[7 8]`.
-pub(crate) fn add_marks(out: &mut String, book: &Book, fds: &[OwnedFd]) -> fmt::Result {
+pub(crate) fn add_marks(out: &mut String, book: &Book, fds: &[OwnedFd]) -> Result<(), AllocError> {
     write!(out, "[")?;
     for (i, fd) in fds.iter().enumerate() {
         if i > 0 {
