@@ -1,5 +1,6 @@
 use line::{Hosted, Line};
 use protocol::{OwnedFd, Refusal};
+use std::process::Abort;
 use std::test::*;
 
 // Stands in the buffers of a receive where nothing was written.
@@ -45,6 +46,8 @@ pub(crate) enum Step {
 #[derive(Drop)]
 pub(crate) struct Driver<L> {
     line: L,
+    // the place of the step that is taken, for messages
+    step: usize,
     bytes_in: usize,
     bytes_out: usize,
     fds_in: usize,
@@ -57,6 +60,7 @@ impl<L: Line + Hosted> Driver<L> {
     pub(crate) fn new(line: L) -> Driver<L> {
         Driver {
             line,
+            step: 0,
             bytes_in: 0,
             bytes_out: 0,
             fds_in: 0,
@@ -88,19 +92,20 @@ impl<L: Line + Hosted> Driver<L> {
     }
 
     // Receives up to so many bytes, and looks that they go on where the last ones ended, each duplicate with its byte.
-    fn receive(&mut self, asked: usize, places: usize) -> Result<Answer, Fail> {
+    fn receive(&mut self, rt: &impl Abort, asked: usize, places: usize) -> Answer {
         let mut bytes = [BLANK; 8193];
         let mut fds = [NO_FD; 29];
-        self.receive_into(&mut bytes, &mut fds, asked, places)
+        self.receive_into(rt, &mut bytes, &mut fds, asked, places)
     }
 
     fn receive_into(
         &mut self,
+        rt: &impl Abort,
         bytes: &mut [u8],
         fds: &mut [OwnedFd],
         asked: usize,
         places: usize,
-    ) -> Result<Answer, Fail> {
+    ) -> Answer {
         let asked = asked.min(bytes.len());
         let places = places.min(fds.len());
         let answer = self.line.receive(&mut bytes[..asked], &mut fds[..places]);
@@ -108,47 +113,47 @@ impl<L: Line + Hosted> Driver<L> {
             Ok(counts) => counts,
             Err(_) => (0, 0),
         };
-        self.take_bytes(bytes, n)?;
-        self.take_fds(fds, k)?;
-        Ok(answer)
+        self.take_bytes(rt, bytes, n);
+        self.take_fds(rt, fds, k);
+        answer
     }
 
     // The first n bytes are the next of the stream, and nothing is written behind them.
-    fn take_bytes(&mut self, bytes: &[u8], n: usize) -> Result<(), Fail> {
+    fn take_bytes(&mut self, rt: &impl Abort, bytes: &[u8], n: usize) {
+        let step = self.step;
         for (i, byte) in bytes.iter().enumerate() {
             let expected = if i < n {
                 byte_at(self.bytes_out.wrapping_add(i))
             } else {
                 BLANK
             };
-            assert_eq!(*byte, expected, "a byte");
+            assert_eq!(rt; *byte, expected, "step {step}: a byte");
         }
         self.bytes_out = self.bytes_out.wrapping_add(n);
-        Ok(())
     }
 
     // The first k duplicates are the next ones, the bytes that carry them have come out, and the next one does not.
-    fn take_fds(&mut self, fds: &[OwnedFd], k: usize) -> Result<(), Fail> {
+    fn take_fds(&mut self, rt: &impl Abort, fds: &[OwnedFd], k: usize) {
+        let step = self.step;
         for (i, fd) in fds.iter().enumerate() {
             if i < k {
                 let place = self.fds_out.wrapping_add(i);
-                assert_eq!(fd.0, fd_at(place).0, "a duplicate");
-                assert!(
+                assert_eq!(rt; fd.0, fd_at(place).0, "step {step}: a duplicate");
+                assert!(rt;
                     self.carrier(place) < self.bytes_out,
-                    "a duplicate before its byte"
+                    "step {step}: a duplicate before its byte"
                 );
             } else {
-                assert_eq!(fd.0, NO_FD.0, "a place behind the duplicates");
+                assert_eq!(rt; fd.0, NO_FD.0, "step {step}: a place behind the duplicates");
             }
         }
         self.fds_out = self.fds_out.wrapping_add(k);
         if self.fds_out < self.fds_in {
-            assert!(
+            assert!(rt;
                 self.carrier(self.fds_out) >= self.bytes_out,
-                "a byte before its duplicate"
+                "step {step}: a byte before its duplicate"
             );
         }
-        Ok(())
     }
 
     fn carrier(&self, place: usize) -> usize {
@@ -156,7 +161,8 @@ impl<L: Line + Hosted> Driver<L> {
     }
 
     // Sends so many bytes, and receives where the line takes no more, until it has taken all.
-    fn carry(&mut self, bytes: usize, fds: usize) -> Result<(), Fail> {
+    fn carry(&mut self, rt: &impl Abort, bytes: usize, fds: usize) -> Result<(), Fail> {
+        let step = self.step;
         let mut bytes = bytes;
         let mut fds = fds;
         for _ in 0..10_000 {
@@ -166,86 +172,100 @@ impl<L: Line + Hosted> Driver<L> {
                     fds = 0;
                 }
                 Err(Refusal::Again) => {
-                    let _ = self.receive(700, 28)?;
+                    let _ = self.receive(rt, 700, 28);
                 }
-                Err(why) => return Err(Fail::new(why.name())),
+                Err(why) => return Err(Fail::new(format_args!("step {step}: {why}"))),
             }
             if bytes == 0 {
                 return Ok(());
             }
         }
-        Err(Fail::new("the line takes no more"))
+        Err(Fail::new(format_args!("step {step}: the line takes no more")))
     }
 
     // Receives until nothing waits; answers the number of the last refusal.
-    fn drain(&mut self) -> Result<u8, Fail> {
+    fn drain(&mut self, rt: &impl Abort) -> Result<u8, Fail> {
+        let step = self.step;
         for _ in 0..10_000 {
-            if let Err(why) = self.receive(300, 28)? {
-                assert_eq!(self.bytes_out, self.bytes_in, "bytes that have come out");
-                assert_eq!(self.fds_out, self.fds_in, "duplicates that have come out");
+            if let Err(why) = self.receive(rt, 300, 28) {
+                assert_eq!(rt;
+                    self.bytes_out,
+                    self.bytes_in,
+                    "step {step}: bytes that have come out"
+                );
+                assert_eq!(rt;
+                    self.fds_out,
+                    self.fds_in,
+                    "step {step}: duplicates that have come out"
+                );
                 return Ok(why.number());
             }
         }
-        Err(Fail::new("the line is never empty"))
+        Err(Fail::new(format_args!("step {step}: the line is never empty")))
     }
 
-    fn stand(&self, waiting: usize, window: usize, shut: u32) -> Result<(), Fail> {
+    fn stand(&self, rt: &impl Abort, waiting: usize, window: usize, shut: u32) {
+        let step = self.step;
         let view = self.line.view();
-        assert_eq!(view.waiting, waiting, "waiting");
-        assert_eq!(view.window, window, "window");
-        assert_eq!(view.shut, shut, "shut");
-        Ok(())
+        assert_eq!(rt; view.waiting, waiting, "step {step}: waiting");
+        assert_eq!(rt; view.window, window, "step {step}: window");
+        assert_eq!(rt; view.shut, shut, "step {step}: shut");
     }
 
-    fn take_step(&mut self, step: Step) -> Result<(), Fail> {
-        match step {
+    fn take_step(&mut self, rt: &impl Abort, wanted: Step) -> Result<(), Fail> {
+        let step = self.step;
+        match wanted {
             Step::Send(bytes, fds, taken) => match self.send(bytes, fds) {
                 Ok(n) => {
-                    assert_eq!(n, taken);
+                    assert_eq!(rt; n, taken, "step {step}: taken");
                     Ok(())
                 },
-                Err(why) => Err(Fail::new(why.name())),
+                Err(why) => Err(Fail::new(format_args!("step {step}: {why}"))),
             },
             Step::Refuse(bytes, fds, number, value) => match self.send(bytes, fds) {
-                Ok(_) => Err(Fail::new("a send was taken")),
+                Ok(_) => Err(Fail::new(format_args!("step {step}: a send was taken"))),
                 Err(why) => {
-                    assert_eq!(why.number(), number);
-                    assert_eq!(why.value(), value);
+                    assert_eq!(rt; why.number(), number, "step {step}: the refusal");
+                    assert_eq!(rt; why.value(), value, "step {step}: its value");
                     Ok(())
                 }
             },
-            Step::Receive(asked, bytes, fds) => match self.receive(asked, 28)? {
+            Step::Receive(asked, bytes, fds) => match self.receive(rt, asked, 28) {
                 Ok((n, k)) => {
-                    assert_eq!(n, bytes);
-                    assert_eq!(k, fds);
+                    assert_eq!(rt; n, bytes, "step {step}: bytes");
+                    assert_eq!(rt; k, fds, "step {step}: duplicates");
                     Ok(())
                 }
-                Err(why) => Err(Fail::new(why.name())),
+                Err(why) => Err(Fail::new(format_args!("step {step}: {why}"))),
             },
-            Step::Nothing(asked, places, number) => match self.receive(asked, places)? {
-                Ok(_) => Err(Fail::new("cells were given")),
+            Step::Nothing(asked, places, number) => match self.receive(rt, asked, places) {
+                Ok(_) => Err(Fail::new(format_args!("step {step}: cells were given"))),
                 Err(why) => {
-                    assert_eq!(why.number(), number);
+                    assert_eq!(rt; why.number(), number, "step {step}: the refusal");
                     Ok(())
                 },
             },
-            Step::Carry(bytes, fds) => self.carry(bytes, fds),
+            Step::Carry(bytes, fds) => self.carry(rt, bytes, fds),
             Step::Drain(number) => {
-                assert_eq!(self.drain()?, number);
+                assert_eq!(rt; self.drain(rt)?, number, "step {step}: the last refusal");
                 Ok(())
             },
             Step::Shut(code) => {
                 self.line.shut(code);
                 Ok(())
             }
-            Step::Stand(waiting, window, shut) => self.stand(waiting, window, shut),
+            Step::Stand(waiting, window, shut) => {
+                self.stand(rt, waiting, window, shut);
+                Ok(())
+            }
         }
     }
 
     // Takes the steps in their order.
-    pub(crate) fn follow(&mut self, steps: &[Step]) -> Result<(), Fail> {
+    pub(crate) fn follow(&mut self, rt: &impl Abort, steps: &[Step]) -> Result<(), Fail> {
         for (i, step) in steps.iter().enumerate() {
-            self.take_step(*step).note(i)?;
+            self.step = i;
+            self.take_step(rt, *step)?;
         }
         Ok(())
     }

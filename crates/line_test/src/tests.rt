@@ -1,6 +1,7 @@
 use crate::driver::Step::{Carry, Drain, Nothing, Receive, Refuse, Send, Shut, Stand};
 use crate::driver::{Driver, Step};
 use line::{Hosted, Line, Parcel, Ring};
+use std::process::Abort;
 use std::test::*;
 
 // The refusals of a line, by their numbers.
@@ -53,18 +54,18 @@ const SHUT: [Step; 8] = [
     Refuse(1, 0, BROKEN, 32),
 ];
 
-fn carry_all<L: Line + Hosted + Drop>(line: L) -> Result<(), Fail> {
+fn carry_all<L: Line + Hosted + Drop>(rt: &impl Abort, line: L) -> Result<(), Fail> {
     let mut driver = Driver::new(line);
-    driver.follow(&AROUND)?;
-    driver.follow(&[Carry(1, 28); 17])?;
-    driver.follow(&PLACES)?;
-    driver.follow(&SHUT)
+    driver.follow(rt, &AROUND)?;
+    driver.follow(rt, &[Carry(1, 28); 17])?;
+    driver.follow(rt, &PLACES)?;
+    driver.follow(rt, &SHUT)
 }
 
 #[test]
-fn both_carry_the_same_sends() -> Result<(), Fail> {
-    carry_all(Ring::new())?;
-    carry_all(Parcel::new())
+fn both_carry_the_same_sends(rt: HostRuntime) -> Result<(), Fail> {
+    carry_all(&rt, Ring::new())?;
+    carry_all(&rt, Parcel::new())
 }
 
 // Sends fill a ring and a parcel line to the last byte.
@@ -98,9 +99,9 @@ const FULL_PARCEL: [Step; 11] = [
 ];
 
 #[test]
-fn both_are_exactly_full() -> Result<(), Fail> {
-    Driver::new(Ring::new()).follow(&FULL_RING)?;
-    Driver::new(Parcel::new()).follow(&FULL_PARCEL)
+fn both_are_exactly_full(rt: HostRuntime) -> Result<(), Fail> {
+    Driver::new(Ring::new()).follow(&rt, &FULL_RING)?;
+    Driver::new(Parcel::new()).follow(&rt, &FULL_PARCEL)
 }
 
 // A ring with 28 free places takes bytes, with 27 it takes none.
@@ -128,11 +129,11 @@ const PLACES_PARCEL: [Step; 6] = [
 ];
 
 #[test]
-fn a_ring_wants_28_free_places() -> Result<(), Fail> {
+fn a_ring_wants_28_free_places(rt: HostRuntime) -> Result<(), Fail> {
     let mut ring = Driver::new(Ring::new());
-    ring.follow(&[Send(1, 28, 1); 17])?;
-    ring.follow(&PLACES_RING)?;
-    Driver::new(Parcel::new()).follow(&PLACES_PARCEL)
+    ring.follow(&rt, &[Send(1, 28, 1); 17])?;
+    ring.follow(&rt, &PLACES_RING)?;
+    Driver::new(Parcel::new()).follow(&rt, &PLACES_PARCEL)
 }
 
 // A ring gives cells up to 28 duplicates, and the bytes before the next that carries some.
@@ -147,8 +148,8 @@ const MOST: [Step; 7] = [
 ];
 
 #[test]
-fn a_ring_gives_as_much_as_it_may() -> Result<(), Fail> {
-    Driver::new(Ring::new()).follow(&MOST)
+fn a_ring_gives_as_much_as_it_may(rt: HostRuntime) -> Result<(), Fail> {
+    Driver::new(Ring::new()).follow(&rt, &MOST)
 }
 
 // The code that a line is shut with first is kept, whatever comes later.
@@ -161,9 +162,9 @@ const SHUT_WITH_CODE: [Step; 5] = [
 ];
 
 #[test]
-fn both_are_shut_with_their_first_code() -> Result<(), Fail> {
-    Driver::new(Ring::new()).follow(&SHUT_WITH_CODE)?;
-    Driver::new(Parcel::new()).follow(&SHUT_WITH_CODE)
+fn both_are_shut_with_their_first_code(rt: HostRuntime) -> Result<(), Fail> {
+    Driver::new(Ring::new()).follow(&rt, &SHUT_WITH_CODE)?;
+    Driver::new(Parcel::new()).follow(&rt, &SHUT_WITH_CODE)
 }
 
 const LIMITS: [Step; 9] = [
@@ -179,7 +180,7 @@ const LIMITS: [Step; 9] = [
 ];
 
 #[test]
-fn both_keep_the_limits() -> Result<(), Fail> {
-    Driver::new(Ring::new()).follow(&LIMITS)?;
-    Driver::new(Parcel::new()).follow(&LIMITS)
+fn both_keep_the_limits(rt: HostRuntime) -> Result<(), Fail> {
+    Driver::new(Ring::new()).follow(&rt, &LIMITS)?;
+    Driver::new(Parcel::new()).follow(&rt, &LIMITS)
 }
