@@ -10,7 +10,7 @@ use Rattle.protocol.specs.declared.argument.ArgumentType.TheVariants as type
 use Rattle.protocol.specs.Types.{kind}
 use Rattle.wire.specs.Values.{Value, Message, int, uint, fixed, string, null, object, new_id, array, descriptor, carried, descriptors}
 use Rattle.wire.specs.Frame.{Fits, known, word, padding, block, field, fields, frame, frame_sized, size_of}
-use Rattle.wire.specs.Read.{Parsed, word_at, no_zero, number, whole, inner, text, first, one, then, before, values, fd_of, fd_count, size_at, opcode_at, parsed}
+use Rattle.wire.specs.Read.{Parsed, word_at, no_zero, number, whole, inner, text, one, then, before, values, fd_of, fd_count, size_at, opcode_at, parsed}
 use Rattle.wire.specs.Laws.{type_of_value, Carries, Typed, ReadsFrames}
 use Rattle.wire.proofs.Fitting.{Blocked, fits_length, fits_known, fits_split, fits_block, word_read}
 use Rattle.wire.proofs.Parsing.{after_checks}

@@ -5,7 +5,6 @@ use Rattle.std.proofs.lemmas.Bool.{eqb-true}
 use Rattle.protocol.specs.declared.argument.Argument.{Argument}
 use Rattle.protocol.specs.declared.argument.Argument.TheVariants as arg
 use Rattle.protocol.specs.declared.argument.ArgumentType.{ArgumentType}
-use Rattle.protocol.specs.declared.argument.ArgumentType.TheVariants as type
 use Rattle.protocol.specs.declared.fd.OwnedFd.{OwnedFd}
 use Rattle.protocol.specs.declared.fd.RawFd.{RawFd}
 use Rattle.protocol.specs.Types.{Matching, kind, type_of}

@@ -3,7 +3,6 @@ use Rattle.std.proofs.Common.{◌≡◌, ℕ, ◌+◌, ◌≤◌, true, List, []
 use Rattle.std.proofs.lemmas.List.{drop-drop, length-append, length-drop, take_at, take-take}
 use Rattle.std.proofs.lemmas.Bool.{cond-true, le-leb}
 use Rattle.protocol.specs.declared.argument.Argument.{Argument}
-use Rattle.protocol.specs.declared.argument.Argument.TheVariants as arg
 use Rattle.protocol.specs.declared.argument.ArgumentType.{ArgumentType}
 use Rattle.protocol.specs.declared.argument.ArgumentType.TheVariants as type
 use Rattle.protocol.specs.declared.fd.OwnedFd.{OwnedFd}

@@ -4,7 +4,6 @@ use Rattle.std.proofs.lemmas.List.{length-append, length-replicate, length-take,
 use Rattle.std.proofs.lemmas.Bool.{cond-true, cond-false, leb-true, and_parts, cases_eq, eq-eqb, ne_eqb, eqb-true}
 use Rattle.std.specs.Option.{option_map}
 use Rattle.protocol.specs.declared.argument.Argument.{Argument}
-use Rattle.protocol.specs.declared.argument.Argument.TheVariants as arg
 use Rattle.protocol.specs.declared.argument.ArgumentType.{ArgumentType}
 use Rattle.protocol.specs.declared.argument.ArgumentType.TheVariants as type
 use Rattle.wire.specs.Values.{Value, int, uint, fixed, string, null, object, new_id, array, descriptor, carried}

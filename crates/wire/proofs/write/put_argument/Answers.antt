@@ -2,7 +2,6 @@ use Rattle.std.proofs.Common.{◌≡◌, ℕ, ◌^◌, ◌<◌, List, [], ◌∷
 use Rattle.std.proofs.lemmas.Int.{to_z-of_z}
 use Rattle.std.proofs.lemmas.Bool.{and_parts}
 use Rattle.protocol.specs.declared.argument.Argument.{Argument}
-use Rattle.protocol.specs.declared.argument.Argument.TheVariants as arg
 use Rattle.protocol.specs.declared.fd.RawFd.{RawFd}
 use Rattle.wire.specs.Frame.{block, field, known, word}
 use Rattle.wire.specs.Laws.{Carries}
