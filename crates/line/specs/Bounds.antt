@@ -3,7 +3,7 @@ use Rattle.std.specs.Prelude.{◌≡◌, ℕ, zero, suc, ◌≤◌, true, ◌&&�
 use Rattle.std.proofs.Common.{sym, subst, arith}
 use Rattle.std.proofs.lemmas.List.{append_assoc, append-nil, length-take}
 use Rattle.std.proofs.lemmas.Bool.{and_parts, leb-true}
-use Rattle.std.specs.List.{AllByRecursion as All}
+use Rattle.std.specs.List.{AllByRecursion}
 use Rattle.protocol.specs.declared.fd.OwnedFd.{OwnedFd}
 use Rattle.protocol.specs.declared.limits.Limits.{Limits}
 use Rattle.line.specs.CellsView.{bytes_in, fds_in, cells_in, Queues}
@@ -30,7 +30,7 @@ few_held lim h w = few_send lim.descriptors (held_bytes h) (held_fds h) (omega (
 
 -- a ring: no mark carries more
 abbrev AllFew : ℕ → List ℕ → Type 0
-AllFew d ks = All (λ k. k ≤ d) ks
+AllFew d ks = AllByRecursion (λ k. k ≤ d) ks
 
 few_from : (d : ℕ) (bs ks : List ℕ) (fs : List OwnedFd) → AllFew d ks → EachFew d (cells_from bs ks fs)
 few_from d [] ks fs a = tt

@@ -1,7 +1,7 @@
 -- What a line is to its users. It carries one direction: bytes, with duplicates beside them.
 -- Its meaning has three parts: the cells that wait, the window and the shut code.
 use Rattle.std.specs.Prelude.{◌≡◌, ℕ, ◌<◌, ◌≤◌, min, cond, ◌||◌, List, [], ◌∷◌, ◌++◌, map, length, take, drop, Some, None, Ok, Err, Option, Result, ◌==◌, nat_lt}
-use Rattle.std.specs.List.{flat_map, AllByRecursion as All}
+use Rattle.std.specs.List.{flat_map, AllByRecursion}
 use Rattle.protocol.specs.declared.fd.OwnedFd.{OwnedFd}
 use Rattle.protocol.specs.declared.limits.Limits.{Limits}
 use Rattle.protocol.specs.declared.refusal.Refusal.{Refusal}
@@ -32,7 +32,7 @@ fds_of cells = flat_map (λ c. c.fds) cells
 
 -- no cell has more than d duplicates
 abbrev pub EachFew : ℕ → List Cell → Type 0
-EachFew d cells = All (λ c. length c.fds ≤ d) cells
+EachFew d cells = AllByRecursion (λ c. length c.fds ≤ d) cells
 
 -- why a send is refused: the first of its checks that fails
 abbrev pub send_refusal : Limits → ℕ → ℕ → ℕ → ℕ → Option Refusal
