@@ -26,13 +26,13 @@ module _ {X : Type 0} (n : ℕ) (s : List X) (head : ℕ) (e : length s ≡ n) (
       let j : ℕ = k - (n - head) in
       let d : length (drop head s) ≡ n - head = simp length-drop (omega arith) in
       let a : j ≤ length (take head s) = simp length-take (omega arith) in
-      let k-is : k ≡ n - head + j = omega arith in
+      let k_is : k ≡ n - head + j = omega arith in
       let left : drop k (turned head s) ≡ drop j (take head s) =
-      ap (λ y. drop y (turned head s)) k-is
+      ap (λ y. drop y (turned head s)) k_is
       ∙ sym (drop-drop j (n - head) (turned head s))
       ∙ ap (drop j) (drop_at (drop head s) (take head s) (n - head) d) in
       let right : take k (turned head s) ≡ drop head s ++ take j s =
-      ap (λ y. take y (turned head s)) k-is
+      ap (λ y. take y (turned head s)) k_is
       ∙ take-add (n - head) j (turned head s)
       ∙ ap (λ y. y ++ take j (drop (n - head) (turned head s))) (take_at (drop head s) (take head s) (n - head) d)
       ∙ ap (λ y. drop head s ++ take j y) (drop_at (drop head s) (take head s) (n - head) d)
@@ -156,29 +156,29 @@ module _ {X : Type 0} (n : ℕ) (s : List X) (head : ℕ) (e : length s ≡ n) (
   pub first_items : (k f : ℕ) → k ≤ n → f ≡ min k (n - head) → held s head k ≡ take f (drop head s) ++ take (k - f) s
   first_items k f l d = ⊎_elim
       (λ (t : k < n - head).
-      let f-is : f ≡ k = omega arith in
+      let f_is : f ≡ k = omega arith in
       let z : k - f ≡ 0 = omega arith in
       held_near n s head k e h (omega arith)
       ∙ sym (append-nil (take k (drop head s)))
-      ∙ ap (λ y. take y (drop head s) ++ []) (sym f-is)
+      ∙ ap (λ y. take y (drop head s) ++ []) (sym f_is)
       ∙ ap (λ y. take f (drop head s) ++ take y s) (sym z))
       (λ (t : n - head ≤ k).
-      let f-is : f ≡ n - head = omega arith in
+      let f_is : f ≡ n - head = omega arith in
       let whole : take f (drop head s) ≡ drop head s = take_all f (drop head s) (simp length-drop (omega arith)) in
       held_far n s head k e h t
       ∙ ap (λ y. drop head s ++ y) (take-take (k - (n - head)) head s (omega arith))
       ∙ ap (λ y. y ++ take (k - (n - head)) s) (sym whole)
-      ∙ ap (λ y. take f (drop head s) ++ take (k - y) s) (sym f-is))
+      ∙ ap (λ y. take f (drop head s) ++ take (k - y) s) (sym f_is))
       (cases_lt k (n - head))
 
   -- two copies to the front of a list
   pub copied : (len k f : ℕ) (out ps qs : List X) → len ≤ n → k ≤ len → k ≤ length out → f ≡ min k (n - head) → ps ≡ take f (drop head s) → qs ≡ take (k - f) s
       → put_mid f (k - f) (ps ++ drop f out) qs ≡ take k (held s head len) ++ drop k out
   copied len k f out ps qs l m o d p q =
-      let ps-long : length ps ≡ f = ap length p ∙ length-take-le f (drop head s) (simp length-drop (omega arith)) in
+      let ps_long : length ps ≡ f = ap length p ∙ length-take-le f (drop head s) (simp length-drop (omega arith)) in
       let z : f + (k - f) ≡ k = omega arith in
-      ap (λ y. y ++ (qs ++ drop (k - f) (drop f (ps ++ drop f out)))) (take_at ps (drop f out) f ps-long)
-      ∙ ap (λ y. ps ++ (qs ++ drop (k - f) y)) (drop_at ps (drop f out) f ps-long)
+      ap (λ y. y ++ (qs ++ drop (k - f) (drop f (ps ++ drop f out)))) (take_at ps (drop f out) f ps_long)
+      ∙ ap (λ y. ps ++ (qs ++ drop (k - f) y)) (drop_at ps (drop f out) f ps_long)
       ∙ ap (λ y. ps ++ (qs ++ y)) (drop-drop (k - f) f out ∙ ap (λ y. drop y out) z)
       ∙ sym (append_assoc ps qs (drop k out))
       ∙ ap (λ y. (y ++ qs) ++ drop k out) p
@@ -216,12 +216,12 @@ module _ {X : Type 0} (n : ℕ) (s : List X) (head : ℕ) (e : length s ≡ n) (
       let here : at ≡ head + len = d ∙ cond-true (ltb len (n - head)) (head + len) (len - (n - head)) (lt-ltb len (n - head) t) in
       ⊎_elim
       (λ (u : f < length new).
-      let ps-long : length ps ≡ f = ap length p ∙ length-take-le f new (omega arith) in
-      let qs-long : length qs ≡ length new - f = ap length q ∙ length-drop f new in
+      let ps_long : length ps ≡ f = ap length p ∙ length-take-le f new (omega arith) in
+      let qs_long : length qs ≡ length new - f = ap length q ∙ length-drop f new in
       let whole : len + length ps + length qs ≡ len + length new = omega arith in
       ap (λ y. held (put_mid 0 (length new - f) (put_mid y f s ps) qs) head (len + length new)) here
-      ∙ ap (λ y. held (put_mid 0 (length new - f) (put_mid (head + len) y s ps) qs) head (len + length new)) (sym ps-long)
-      ∙ ap (λ y. held (put_mid 0 y (put_mid (head + len) (length ps) s ps) qs) head (len + length new)) (sym qs-long)
+      ∙ ap (λ y. held (put_mid 0 (length new - f) (put_mid (head + len) y s ps) qs) head (len + length new)) (sym ps_long)
+      ∙ ap (λ y. held (put_mid 0 y (put_mid (head + len) (length ps) s ps) qs) head (len + length new)) (sym qs_long)
       ∙ ap (λ y. held (put_mid 0 (length qs) (put_mid (head + len) (length ps) s ps) qs) head y) (sym whole)
       ∙ put_around n s head len e h ps qs (omega arith) (omega arith)
       ∙ ap (λ y. held s head len ++ (y ++ qs)) p
@@ -237,12 +237,12 @@ module _ {X : Type 0} (n : ℕ) (s : List X) (head : ℕ) (e : length s ≡ n) (
       -- where they do not pass the last slot, the second write changes nothing
       once : length new ≤ f → held (put_mid 0 (length new - f) (put_mid at f s ps) qs) head (len + length new) ≡ held (put_mid at (length new) s new) head (len + length new)
       once u =
-          let f-is : f ≡ length new = omega arith in
+          let f_is : f ≡ length new = omega arith in
           let z : length new - f ≡ 0 = omega arith in
           ap (λ y. held (put_mid 0 y (put_mid at f s ps) qs) head (len + length new)) z
           ∙ ap (λ y. held (put_mid 0 0 (put_mid at f s ps) y) head (len + length new)) (q ∙ drop_all f new u)
           ∙ ap (λ y. held (put_mid at f s y) head (len + length new)) (p ∙ take_all f new u)
-          ∙ ap (λ y. held (put_mid at y s new) head (len + length new)) f-is
+          ∙ ap (λ y. held (put_mid at y s new) head (len + length new)) f_is
 
   pub queued_on : (len at : ℕ) (new : List X) → len + length new ≤ n → at ≡ slot_of n head len → held (around at s new) head (len + length new) ≡ held s head len ++ new
   queued_on len at new l d =

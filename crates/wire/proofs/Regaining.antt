@@ -137,7 +137,7 @@ pub regained : (ts : List ArgumentType) (room : ℕ) (m : Message RawFd) (payloa
 regained ts room m payload places places' rest more fs fs' typed sender opcode small fit book p r =
     let files = copied_files fs (descriptors m.args) fs p.duplicates fs' book p.copied in
     let s = refilled_all (λ (n : RawFd). file_of fs n.0) (λ (d : OwnedFd). file_of fs' d.0) ts m.args p.duplicates typed files in
-    let same-frame = frame_same m (refilled m.args p.duplicates) s.bytes in
+    let same_frame = frame_same m (refilled m.args p.duplicates) s.bytes in
     let size : 8 + length (fields (refilled m.args p.duplicates)) ≡ size_of m = ap (λ (b : List (Option ℕ)). 8 + length b) s.bytes in
     let len : length (frame m) ≡ size_of m = omega arith in
     let count : length p.duplicates ≡ length (descriptors m.args) =
@@ -150,7 +150,7 @@ regained ts room m payload places places' rest more fs fs' typed sender opcode s
           reads_frames room ts (take (size_of m) (overlay (frame m) payload) ++ rest) (take (length (descriptors m.args)) places' ++ more)
           (record { sender = m.sender; opcode = m.opcode; args = refilled m.args p.duplicates }) (take (size_of m) (overlay (frame m) payload)) rest more
           (record { sender = sender; opcode = opcode; size = omega arith; args = s.typed })
-          (subst (λ (f : List (Option ℕ)). Fits f (take (size_of m) (overlay (frame m) payload))) (sym same-frame)
+          (subst (λ (f : List (Option ℕ)). Fits f (take (size_of m) (overlay (frame m) payload))) (sym same_frame)
           (subst (λ (k : ℕ). Fits (frame m) (take k (overlay (frame m) payload))) len (overlay_fits (frame m) payload (omega arith))))
           refl (ap (λ (x : List OwnedFd). x ++ more) (taken ∙ sym s.fds)) r
           ∙ ap (λ (k : ℕ). Ok (record { message = record { sender = m.sender; opcode = m.opcode; args = refilled m.args p.duplicates }; size = k; rest = rest; left = more })) size;

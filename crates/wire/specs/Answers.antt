@@ -40,7 +40,7 @@ pub record Passed (p : Result (Parsed OwnedFd) Refusal) (room : ℕ) (ts : List 
   pub is : header ≡ header_at raw
   pub long : 8 ≤ size_at raw
   pub whole : size_at raw ≤ length raw
-  pub room-enough : length ts ≤ room
+  pub room_enough : length ts ≤ room
   pub fit : is_some (values ts (drop 8 (take (size_at raw) raw)) xs) ≡ true
   pub answer : p ≡ parsed raw xs (values ts (drop 8 (take (size_at raw) raw)) xs)
 

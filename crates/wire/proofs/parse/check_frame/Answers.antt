@@ -67,7 +67,7 @@ returns c =
         is = c.header_of-header.ensures;
         long = omega arith;
         whole = omega arith;
-        room-enough = omega arith;
+        room_enough = omega arith;
         fit = sym (fit_at true c.args.signature.now c.args.raw.now (drop c.args.cursor c.args.fds.now) _ _ s c.if-not-arguments_fit.ensures);
         answer =
             after_checks c.args.room c.args.signature.now c.args.raw.now (drop c.args.cursor c.args.fds.now) (omega arith, omega arith, omega arith)

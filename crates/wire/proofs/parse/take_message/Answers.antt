@@ -22,7 +22,7 @@ fill_arguments-requires c =
     let w = c.requires.whole in
     record {
       long = simp length-take (omega arith);
-      room = c.requires.room-enough;
+      room = c.requires.room_enough;
       fit = subst (λ (n : ℕ). is_some (values c.args.signature.now (drop 8 (take n c.args.raw.now)) (drop c.args.cursor.now c.args.fds.now)) ≡ true) (sym (same _ _ s)) c.requires.fit;
     }
 
