@@ -4,13 +4,13 @@ ghost use Rattle.protocol.specs.Types.{same_type, type_of, Checked};
 use crate::refusal::Refusal;
 
 // Whether an argument may be null. It is carried, and not looked at.
-#[derive(Clone, Copy)]
+#[derive(Clone, Copy, Debug, PartialEq, Eq)]
 pub enum AllowNull {
     Yes,
     No,
 }
 
-#[derive(Clone, Copy)]
+#[derive(Clone, Copy, Debug, PartialEq, Eq)]
 pub enum ArgumentType {
     Int,
     Uint,
@@ -27,29 +27,29 @@ impl ArgumentType {
     pub fn same_type(self, other: ArgumentType) -> bool
         ensures { result ≡ same_type self other }
     {
-        match (self, other) {
-            (ArgumentType::Int, ArgumentType::Int) => true,
-            (ArgumentType::Uint, ArgumentType::Uint) => true,
-            (ArgumentType::Fixed, ArgumentType::Fixed) => true,
-            (ArgumentType::Str(_), ArgumentType::Str(_)) => true,
-            (ArgumentType::Object(_), ArgumentType::Object(_)) => true,
-            (ArgumentType::NewId, ArgumentType::NewId) => true,
-            (ArgumentType::Array, ArgumentType::Array) => true,
-            (ArgumentType::Fd, ArgumentType::Fd) => true,
-            _ => false,
-        }
+        matches!(
+            (self, other),
+            (ArgumentType::Int, ArgumentType::Int)
+                | (ArgumentType::Uint, ArgumentType::Uint)
+                | (ArgumentType::Fixed, ArgumentType::Fixed)
+                | (ArgumentType::Str(_), ArgumentType::Str(_))
+                | (ArgumentType::Object(_), ArgumentType::Object(_))
+                | (ArgumentType::NewId, ArgumentType::NewId)
+                | (ArgumentType::Array, ArgumentType::Array)
+                | (ArgumentType::Fd, ArgumentType::Fd)
+        )
     }
 }
 
 // A string or an array, as a part of the bytes that go with the record: the caller's text, or the frame that was read.
-#[derive(Clone, Copy)]
+#[derive(Clone, Copy, Debug, PartialEq, Eq)]
 pub struct Text {
     pub place: usize,
     pub len: usize,
 }
 
 // One argument; `Fd` is `RawFd` where it is written, and `OwnedFd` where it is read.
-#[derive(Clone, Copy)]
+#[derive(Clone, Copy, Debug, PartialEq, Eq)]
 pub enum Argument<Fd> {
     Int(i32),
     Uint(u32),
@@ -90,10 +90,9 @@ pub fn check_for_signature<Fd>(
     if signature.len() != args.len() {
         return Err(Refusal::Mismatch(255));
     }
-    for (place, arg) in args.iter().enumerate() {
-        if !arg.get_type().same_type(signature[place]) {
-            return Err(Refusal::Mismatch(place));
-        }
+    let mut pairs = args.iter().zip(signature);
+    match pairs.position(|(arg, kind)| !arg.get_type().same_type(*kind)) {
+        Some(place) => Err(Refusal::Mismatch(place)),
+        None => Ok(()),
     }
-    Ok(())
 }

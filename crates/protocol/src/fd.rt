@@ -1,11 +1,11 @@
 ghost use Rattle.std.specs.Prelude.{◌≡◌};
 
 // A number of the descriptor book that belongs to the caller.
-#[derive(Clone, Copy)]
+#[derive(Clone, Copy, Debug, PartialEq, Eq)]
 pub struct RawFd(pub u32);
 
 // A number of the descriptor book that belongs to an end of a link: a duplicate.
-#[derive(Clone, Copy)]
+#[derive(Clone, Copy, Debug, PartialEq, Eq)]
 pub struct OwnedFd(pub u32);
 
 impl OwnedFd {

@@ -1,7 +1,7 @@
 use crate::argument::Argument;
 
 // The first two words of a frame; the size counts these 8 bytes too.
-#[derive(Clone, Copy)]
+#[derive(Clone, Copy, Debug, PartialEq, Eq)]
 pub struct Header {
     pub sender: u32,
     pub opcode: u16,
