@@ -1,6 +1,7 @@
 -- A row names a sender, an opcode and a part of a body. What a source of rows answers, and when its rows are allowed.
 -- `meaning` says what a part of the body means: a list of types, or nothing.
 use Rattle.std.specs.Prelude.{◌≡◌, ℕ, ◌+◌, Bool, true, false, cond, not, ◌&&◌, List, [], ◌∷◌, length, take, drop, is_some, Some, None, Ok, Err, Option, Result, ◌==◌, nat_le}
+use Rattle.std.specs.List.{find, list_all}
 use Rattle.protocol.specs.Limits.{limits}
 use Rattle.protocol.specs.declared.argument.ArgumentType.{ArgumentType}
 use Rattle.protocol.specs.declared.refusal.Refusal.{Refusal}
@@ -11,8 +12,7 @@ use Rattle.signature.specs.Few.{at_most}
 
 -- the first row with this sender and opcode
 abbrev pub row_for : List Row → ℕ → ℕ → Option Row
-row_for [] sender opcode = None
-row_for (row ∷ rows) sender opcode = cond (row.sender == sender && row.opcode == opcode) (Some row) (row_for rows sender opcode)
+row_for rows sender opcode = find (λ row. row.sender == sender && row.opcode == opcode) rows
 
 -- the part of the body that a row names
 abbrev pub part_of : {X : Type 0} → List X → Row → List X
@@ -33,8 +33,7 @@ answer meaning rows body sender opcode = from_row (row_types meaning body) (row_
 
 -- each row is inside the body and means few enough types
 abbrev pub each_reads : {X : Type 0} → (List X → Option (List ArgumentType)) → List X → List Row → Bool
-each_reads meaning body [] = true
-each_reads meaning body (row ∷ rows) = is_some (row_types meaning body row) && each_reads meaning body rows
+each_reads meaning body rows = list_all (λ row. is_some (row_types meaning body row)) rows
 
 -- no two rows are alike in sender and opcode
 abbrev pub apart : List Row → Bool

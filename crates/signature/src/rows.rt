@@ -13,7 +13,7 @@ use protocol::{ArgumentType, Refusal};
 const MOST_ROWS: usize = 256;
 
 // The types of one message stand at `place..place + len` of a body.
-#[derive(Clone, Copy)]
+#[derive(Clone, Copy, Debug, PartialEq, Eq)]
 pub struct Row {
     pub sender: u32,
     pub opcode: u16,
@@ -25,22 +25,21 @@ pub struct Row {
 fn find(rows: &[Row], sender: u32, opcode: u16) -> Option<Row>
     ensures { result ≡ row_for rows.now sender opcode }
 {
-    for row in rows {
-        if row.sender == sender && row.opcode == opcode {
-            return Some(*row);
-        }
-    }
-    None
+    let mut rows = rows.iter();
+    rows.find(|row| row.sender == sender && row.opcode == opcode)
+        .copied()
 }
 
 // Whether no two rows are alike in sender and opcode.
 fn all_apart(rows: &[Row]) -> bool
     ensures { result ≡ apart rows.now }
 {
-    for (i, row) in rows.iter().enumerate() {
-        if find(&rows[i + 1..], row.sender, row.opcode).is_some() {
+    let mut rest = rows;
+    while let [row, behind @ ..] = rest {
+        if find(behind, row.sender, row.opcode).is_some() {
             return false;
         }
+        rest = behind;
     }
     true
 }
@@ -49,25 +48,15 @@ fn all_apart(rows: &[Row]) -> bool
 fn read_row<E: Notation>(row: Row, body: &[E]) -> Option<Signature>
     ensures { option_map types_in result ≡ row_types E.Notation.meaning body.now row }
 {
-    let place = row.place;
-    let len = row.len;
-    if place > body.len() || len > body.len() - place {
-        return None;
-    }
-    let end = place + len;
-    E::read(&body[place..end])
+    let end = row.place.checked_add(row.len)?;
+    E::read(body.get(row.place..end)?)
 }
 
 // Whether each row has types.
 fn all_read<E: Notation>(rows: &[Row], body: &[E]) -> bool
     ensures { result ≡ each_reads E.Notation.meaning body.now rows.now }
 {
-    for row in rows {
-        if read_row(*row, body).is_none() {
-            return false;
-        }
-    }
-    true
+    rows.iter().all(|row| read_row(*row, body).is_some())
 }
 
 // Whether rows over a body keep the rules; where they do, a row's part is read as it stands.
@@ -75,10 +64,7 @@ fn keep_rules<E: Notation>(rows: &[Row], body: &[E]) -> bool
     ensures rules { result ≡ allowed E.Notation.meaning rows.now body.now }
     ensures plain { result ≡ true → Plain E.Notation.meaning rows.now body.now }
 {
-    if rows.len() > MOST_ROWS || !all_read(rows, body) {
-        return false;
-    }
-    all_apart(rows)
+    rows.len() <= MOST_ROWS && all_read(rows, body) && all_apart(rows)
 }
 
 // Rows over a body that keep the rules: `new` is the only way to have one.
@@ -113,9 +99,6 @@ impl<E: Notation> SignatureSource for RowSource<'_, '_, E> {
     ghost few = { λ source. few_answer E.Notation.meaning source.rows.now source.body.now };
 
     fn signature(&self, sender: u32, opcode: u16) -> Option<Signature> {
-        match find(self.rows, sender, opcode) {
-            Some(row) => read_row(row, self.body),
-            None => None,
-        }
+        read_row(find(self.rows, sender, opcode)?, self.body)
     }
 }

@@ -1,4 +1,4 @@
-ghost use Rattle.std.specs.Prelude.{◌≡◌, [], ◌∷◌, ◌++◌, length, if◌then◌else◌, Some, nat_lt};
+ghost use Rattle.std.specs.Prelude.{◌≡◌, [], ◌∷◌, ◌++◌, length, is_some, if◌then◌else◌, Some, nat_lt};
 ghost use Rattle.std.specs.Option.{option_map};
 ghost use Rattle.protocol.specs.Limits.{limits};
 ghost use Rattle.signature.specs.Few.{at_most};
@@ -11,7 +11,7 @@ impl Signature {
     pub fn types(&self) -> &[ArgumentType]
         ensures { result.now ≡ types_in self.now }
     {
-        &self.types[0..self.len]
+        &self.types[..self.len]
     }
 
     // A message with no arguments.
@@ -24,17 +24,17 @@ impl Signature {
         }
     }
 
-    // Adds a type at the end and says so, or changes nothing where there is no room.
-    pub(crate) fn push(&mut self, last: ArgumentType) -> bool
-        ensures room { result ≡ nat_lt (length (types_in self.old)) limits.arguments }
-        ensures after { types_in self.new ≡ (if result then types_in self.old ++ last ∷ [] else types_in self.old) }
+    // Adds a type at the end; None, and nothing is changed, where there is no room.
+    pub(crate) fn push(&mut self, last: ArgumentType) -> Option<()>
+        ensures room { is_some result ≡ nat_lt (length (types_in self.old)) limits.arguments }
+        ensures after { types_in self.new ≡ (if is_some result then types_in self.old ++ last ∷ [] else types_in self.old) }
     {
-        if self.len >= MOST {
-            return false;
+        if self.len == MOST {
+            return None;
         }
         self.types[self.len] = last;
         self.len += 1;
-        true
+        Some(())
     }
 
     // These types, if they are few enough.
@@ -46,7 +46,7 @@ impl Signature {
             return None;
         }
         let mut types = [ArgumentType::Int; MOST];
-        types[0..len].copy_from_slice(list);
+        types[..len].copy_from_slice(list);
         Some(Signature { types, len })
     }
 }

@@ -1,13 +1,15 @@
-use Rattle.std.proofs.Common.{◌≡◌, Bool, ◌&&◌, length, sym, ap, ◌∙◌}
-use Rattle.std.proofs.lemmas.Bool.{le-leb}
-use Rattle.signature.specs.Rows.{allowed, apart, each_reads, most_rows}
-use Rattle.signature.proofs.Lookups.{plain_allowed}
+use Rattle.std.proofs.Common.{true, ◌≡◌, sym, ◌∙◌}
+use Rattle.std.proofs.lemmas.Bool.{false≢true, lt-leb}
+use Rattle.signature.specs.Rows.{each_reads}
+use Rattle.signature.proofs.Lookups.{plain_reads}
 use Rattle.signature.proofs.rows.keep_rules.Goals as goal
+use Rattle.signature.proofs.rows.keep_rules.Goals.{then-rows-le-MOST_ROWS, else-rows-le-MOST_ROWS}
 
-pub returns : goal.returns
-returns g c =
-    let rules : c.all_apart.result ≡ allowed g.E.Notation.meaning c.args.rows.now c.args.body.now =
-    c.all_apart.ensures
-    ∙ sym (ap (λ (b : Bool). b && (each_reads g.E.Notation.meaning c.args.body.now c.args.rows.now && apart c.args.rows.now)) (le-leb (length c.args.rows.now) most_rows c.if-rows-gt-MOST_ROWS.false)
-    ∙ ap (λ (b : Bool). b && apart c.args.rows.now) (sym c.if-not-all_read.ensures)) in
-    record { rules = rules; plain = λ e. plain_allowed g.E.Notation.meaning c.args.body.now c.args.rows.now (sym rules ∙ e) }
+pub returns-then-all_read-clause-plain : goal.returns-then-all_read-clause-plain
+returns-then-all_read-clause-plain g c =
+    let all : each_reads g.E.Notation.meaning c.args.body.now c.args.rows.now ≡ true =
+    elim c.if-rows-le-MOST_ROWS.branch [
+      | then-rows-le-MOST_ROWS w ↦ sym w.all_read.ensures ∙ sym w.value-is ∙ c.if-all_read.true
+      | else-rows-le-MOST_ROWS w ↦ absurd (false≢true (sym (lt-leb _ _ w.if-rows-le-MOST_ROWS.false) ∙ sym w.value-is ∙ c.if-all_read.true))
+    ] in
+    λ _. plain_reads g.E.Notation.meaning c.args.body.now c.args.rows.now all
