@@ -1,3 +1,1 @@
-pub mod Few
-pub mod Lookups
-mod Steps
+mod Lookups

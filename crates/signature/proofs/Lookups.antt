@@ -1,13 +1,16 @@
 -- Rows that all have types are answered by what their parts mean.
-use Rattle.std.proofs.Common.{◌≡◌, ℕ, ◌+◌, Bool, true, cond, ◌&&◌, ◌==◌, leb, List, [], ◌∷◌, length, get_or, take, drop, is_some, Some, None, Option, sym, refl, ap, ◌∙◌}
-use Rattle.std.proofs.lemmas.List.{at_drop_more, take_rest}
+use Rattle.std.proofs.Common.{◌≡◌, ℕ, ◌+◌, true, ◌&&◌, ◌==◌, leb, List, [], ◌∷◌, length, is_some, Some, None, Option, refl}
 use Rattle.std.proofs.lemmas.Bool.{and_parts, cond_both, false≢true}
 use Rattle.protocol.specs.Limits.{limits}
 use Rattle.protocol.specs.declared.argument.ArgumentType.{ArgumentType}
 use Rattle.signature.specs.declared.rows.Row.{Row}
 use Rattle.signature.specs.Few.{at_most}
-use Rattle.signature.specs.Rows.{row_for, part_of, row_types, from_row, answer, each_reads, apart, allowed, most_rows}
-use Rattle.signature.proofs.Few.{at_most_some}
+use Rattle.signature.specs.Rows.{row_for, part_of, row_types, from_row, answer, each_reads}
+
+at_most_some : {X : Type 0} (n : ℕ) (o : Option (List X)) → is_some (at_most n o) ≡ true → at_most n o ≡ o
+at_most_some n None = λ _. refl
+at_most_some n (Some xs) =
+    cond_both (leb (length xs) n) (Some xs) None (λ o. is_some o ≡ true → o ≡ Some xs) (λ _ _. refl) (λ _ e. absurd (false≢true e))
 
 module _ {X : Type 0} (meaning : List X → Option (List ArgumentType)) (body : List X) where
   plain_row : (row : Row) → is_some (row_types meaning body row) ≡ true → row_types meaning body row ≡ meaning (part_of body row)

@@ -8,7 +8,7 @@ mod methods;
 // The most types that a message may have.
 const MOST: usize = LIMITS.arguments;
 
-// The types of one message: the first `len` of `types`.
+// The types of one message: the first `len` of `types`. An array with its length, since a signature can be copied and a vector of any kind can't.
 #[derive(Clone, Copy)]
 pub struct Signature {
     types: [ArgumentType; MOST],
