@@ -14,10 +14,6 @@ pub one_some : (o : Option ℕ) → is_some o ≡ true → one o ≡ 1
 one_some None e = absurd (both_ways (is_some {T = ℕ} None) refl e)
 one_some (Some file) e = refl
 
-pub none_from_one : (o : Option ℕ) → one o ≡ 0 → o ≡ None
-none_from_one None e = refl
-none_from_one (Some file) e = absurd (omega arith)
-
 one_le : (o : Option ℕ) → one o ≤ 1
 one_le None = omega arith
 one_le (Some file) = omega arith

@@ -7,4 +7,4 @@ use Rattle.book.specs.Table.{stands_for}
 use Rattle.book.specs.View.{files}
 
 pub files_length : (b : Book) → length (files b) ≡ numbers
-files_length b = length-map b.entries stands_for ∙ b.sized.0
+files_length b = length-map b.entries stands_for ∙ b.sized

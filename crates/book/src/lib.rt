@@ -2,4 +2,4 @@
 
 mod table;
 
-pub use table::Book;
+pub use table::{Book, NUMBERS};

@@ -23,7 +23,7 @@ pub enum ArgumentType {
 }
 
 impl ArgumentType {
-    // Whether the types are the same but for what they say of null.
+    // Whether the types are the same but for what they say of null, which `==` compares too.
     pub fn same_type(self, other: ArgumentType) -> bool
         ensures { result ≡ same_type self other }
     {
@@ -63,6 +63,7 @@ pub enum Argument<Fd> {
 }
 
 impl<Fd> Argument<Fd> {
+    // Named as in the Rust crate, and no `From`: an argument keeps nothing of its type for null.
     pub fn get_type(&self) -> ArgumentType
         ensures { result ≡ type_of self.now }
     {

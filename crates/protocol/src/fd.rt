@@ -9,7 +9,7 @@ pub struct RawFd(pub u32);
 pub struct OwnedFd(pub u32);
 
 impl OwnedFd {
-    // The caller's from now on.
+    // The caller's from now on. Named as in the Rust crate.
     pub fn into_raw_fd(self) -> RawFd
         ensures { result.0 ≡ self.0 }
     {

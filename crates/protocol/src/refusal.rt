@@ -27,6 +27,7 @@ pub enum Refusal {
 }
 
 impl Refusal {
+    // The number that records of calls give, next to the name: docs/REFUSALS.md lists them.
     pub fn number(self) -> u8
         ensures { result ≡ number_of self }
     {

@@ -5,7 +5,7 @@ ghost use Rattle.book.specs.Files.{numbers, file_of, opened};
 ghost use Rattle.book.specs.Table.{stands_for};
 ghost use Rattle.book.specs.View.{files};
 
-use super::{Book, Entry, NUMBERS, SHUT};
+use super::{Book, Entry, SHUT};
 use protocol::{RawFd, Refusal};
 
 impl Book {
@@ -13,30 +13,21 @@ impl Book {
     pub fn file(&self, fd: RawFd) -> Result<u64, Refusal>
         ensures { result ≡ ok_or (file_of (files self.now) fd.0) NotOpen }
     {
-        let entry = self.entry(fd);
-        if entry.open {
-            Ok(entry.file)
-        } else {
-            Err(Refusal::NotOpen)
-        }
+        self.entry(fd).file.ok_or(Refusal::NotOpen)
     }
 
     // How many numbers are not open.
     pub fn free_numbers(&self) -> usize
         ensures { result + opened (files self.now) ≡ numbers }
     {
-        self.free_len
+        self.free.len()
     }
 
     // What a number stands for; past the table, nothing.
     fn entry(&self, fd: RawFd) -> Entry
         ensures { stands_for result ≡ file_of (files self.now) fd.0 }
     {
-        let number = fd.0 as usize;
-        if number < NUMBERS {
-            self.entries[number]
-        } else {
-            SHUT
-        }
+        let entry = self.entries.get(fd.0 as usize);
+        entry.copied().unwrap_or(SHUT)
     }
 }
