@@ -44,29 +44,6 @@ fn all_apart(rows: &[Row]) -> bool
     true
 }
 
-// The types of a row, if it is inside the body and means some, and not too many.
-fn read_row<E: Notation>(row: Row, body: &[E]) -> Option<Signature>
-    ensures { option_map types_in result ≡ row_types E.Notation.meaning body.now row }
-{
-    let end = row.place.checked_add(row.len)?;
-    E::read(body.get(row.place..end)?)
-}
-
-// Whether each row has types.
-fn all_read<E: Notation>(rows: &[Row], body: &[E]) -> bool
-    ensures { result ≡ each_reads E.Notation.meaning body.now rows.now }
-{
-    rows.iter().all(|row| read_row(*row, body).is_some())
-}
-
-// Whether rows over a body keep the rules; where they do, a row's part is read as it stands.
-fn keep_rules<E: Notation>(rows: &[Row], body: &[E]) -> bool
-    ensures rules { result ≡ allowed E.Notation.meaning rows.now body.now }
-    ensures plain { result ≡ true → Plain E.Notation.meaning rows.now body.now }
-{
-    rows.len() <= MOST_ROWS && all_read(rows, body) && all_apart(rows)
-}
-
 // Rows over a body that keep the rules: `new` is the only way to have one.
 #[derive(Clone, Copy)]
 pub struct RowSource<'r, 'b, E> {
@@ -85,11 +62,35 @@ impl<'r, 'b, E: Notation> RowSource<'r, 'b, E> {
     pub fn new(rows: &'r [Row], body: &'b [E]) -> Result<RowSource<'r, 'b, E>, Refusal>
         ensures { Made E.Notation.meaning rows.now body.now result }
     {
-        if keep_rules(rows, body) {
-            Ok(RowSource { rows, body })
+        let source = RowSource { rows, body };
+        if source.keeps_rules() {
+            Ok(source)
         } else {
             Err(Refusal::BadRow)
         }
+    }
+
+    // Whether the rows over the body keep the rules; where they do, a row's part is read as it stands.
+    fn keeps_rules(&self) -> bool
+        ensures rules { result ≡ allowed E.Notation.meaning self.now.rows.now self.now.body.now }
+        ensures plain { result ≡ true → Plain E.Notation.meaning self.now.rows.now self.now.body.now }
+    {
+        self.rows.len() <= MOST_ROWS && self.all_read() && all_apart(self.rows)
+    }
+
+    // Whether each row has types.
+    fn all_read(&self) -> bool
+        ensures { result ≡ each_reads E.Notation.meaning self.now.body.now self.now.rows.now }
+    {
+        self.rows.iter().all(|row| self.read(*row).is_some())
+    }
+
+    // The types of a row, if it is inside the body and means some, and not too many.
+    fn read(&self, row: Row) -> Option<Signature>
+        ensures { option_map types_in result ≡ row_types E.Notation.meaning self.now.body.now row }
+    {
+        let end = row.place.checked_add(row.len)?;
+        E::read(self.body.get(row.place..end)?)
     }
 }
 
@@ -99,6 +100,6 @@ impl<E: Notation> SignatureSource for RowSource<'_, '_, E> {
     ghost few = { λ source. few_answer E.Notation.meaning source.rows.now source.body.now };
 
     fn signature(&self, sender: u32, opcode: u16) -> Option<Signature> {
-        read_row(find(self.rows, sender, opcode)?, self.body)
+        self.read(find(self.rows, sender, opcode)?)
     }
 }
