@@ -9,7 +9,7 @@ use crate::notation::Notation;
 use crate::types::Signature;
 use protocol::{AllowNull, ArgumentType};
 
-// What one letter does: it allows null for the next, or it is a type.
+// What one letter does: it allows null for the next, or it is a type. No Option: both go on, and None is for a letter that may not stand.
 #[derive(Clone, Copy, Debug, PartialEq, Eq)]
 pub(crate) enum Step {
     Mark,

@@ -37,7 +37,7 @@ impl Signature {
         Some(())
     }
 
-    // These types, if they are few enough.
+    // These types, if they are few enough. No TryFrom: there is one way to fail, and callers answer None too.
     pub fn from_slice(list: &[ArgumentType]) -> Option<Signature>
         ensures { option_map types_in result ≡ at_most limits.arguments (Some list.now) }
     {
