@@ -1,5 +1,5 @@
-ghost use Rattle.std.specs.Prelude.{◌≡◌};
-ghost use Rattle.protocol.specs.Types.{same_type, type_of, Checked};
+ghost use Rattle.std.specs.Prelude.{◌≡◌, length, MatchOption};
+ghost use Rattle.protocol.specs.Types.{same_type, type_of, Checked, Matching, Mismatching};
 
 use crate::refusal::Refusal;
 
@@ -81,6 +81,14 @@ impl<Fd> Argument<Fd> {
     }
 }
 
+// The place of the first argument of another type.
+fn first_unlike<Fd>(signature: &[ArgumentType], args: &[Argument<Fd>]) -> Option<usize>
+    ensures { length signature.now ≡ length args.now → MatchOption result (Matching signature.now args.now) (Mismatching signature.now args.now) }
+{
+    let mut pairs = args.iter().zip(signature);
+    pairs.position(|(arg, kind)| !arg.get_type().same_type(*kind))
+}
+
 // MISMATCH carries 255 where the numbers differ, else the place of an argument of another type.
 pub fn check_for_signature<Fd>(
     signature: &[ArgumentType],
@@ -91,8 +99,7 @@ pub fn check_for_signature<Fd>(
     if signature.len() != args.len() {
         return Err(Refusal::Mismatch(255));
     }
-    let mut pairs = args.iter().zip(signature);
-    match pairs.position(|(arg, kind)| !arg.get_type().same_type(*kind)) {
+    match first_unlike(signature, args) {
         Some(place) => Err(Refusal::Mismatch(place)),
         None => Ok(()),
     }
