@@ -6,11 +6,11 @@
 //   check SIGNATURE ARGS
 // ARGS are i:-5 u:7 f:256 s:HEX S o:3 n:2 a:HEX h:NUMBER, where S is the null string.
 // HEX is `-` for no bytes, or parts joined by `+`, of which `61*5` is one repeated. SIGNATURE is `-` or libwayland's letters, for at most 20 types.
-use crate::words::{Arguments, Fault, bytes, marks, next_word, signature};
+use crate::fault::Fault;
+use crate::words::{Arguments, Words};
 use protocol::RawFd;
 use signature::Signature;
 use std::alloc::Global;
-use std::str::SplitWhitespace;
 
 #[derive(Drop)]
 pub(crate) enum Command {
@@ -46,52 +46,46 @@ pub(crate) struct Parsing {
 
 // None for a blank line and for a comment, which begins with `#`.
 pub(crate) fn read_command(heap: Global, line: &str) -> Result<Option<Command>, Fault> {
-    let mut words = line.split_whitespace();
-    let Some(name) = words.next() else {
+    let mut words = Words::of(heap, line);
+    let Some(name) = words.next_word().filter(|name| !name.starts_with('#')) else {
         return Ok(None);
     };
-    if name.starts_with('#') {
-        return Ok(None);
-    }
     let command = match name {
         "open" => read_open(&mut words)?,
-        "close" => Command::Close(RawFd(next_word(&mut words)?.parse::<u32>()?)),
-        "write" => Command::Write(read_writing(heap, &mut words)?),
-        "parse" => Command::Parse(read_parsing(heap, &mut words)?),
-        "check" => read_check(heap, &mut words)?,
+        "close" => Command::Close(RawFd(words.number()?)),
+        "write" => Command::Write(read_writing(&mut words)?),
+        "parse" => Command::Parse(read_parsing(&mut words)?),
+        "check" => read_check(&mut words)?,
         _ => return Err(Fault::BadLine),
     };
-    match words.next() {
-        None => Ok(Some(command)),
-        Some(_) => Err(Fault::BadLine),
+    if words.next_word().is_some() {
+        return Err(Fault::BadLine);
     }
+    Ok(Some(command))
 }
 
-fn read_open(words: &mut SplitWhitespace) -> Result<Command, Fault> {
-    let mark = next_word(words)?.parse::<u64>()?;
-    let count = match words.next() {
-        Some(word) => word.parse::<usize>()?,
-        None => 1,
-    };
+fn read_open(words: &mut Words) -> Result<Command, Fault> {
+    let mark = words.number()?;
+    let count = words.next_word().map_or(Ok(1), |word| word.parse::<usize>())?;
     Ok(Command::Open { mark, count })
 }
 
 // LEN bytes that are all FILL.
-fn read_payload(heap: Global, words: &mut SplitWhitespace) -> Result<Vec<u8>, Fault> {
-    let len = next_word(words)?.parse::<usize>()?;
-    let fill = bytes(heap, next_word(words)?)?;
+fn read_payload(words: &mut Words) -> Result<Vec<u8>, Fault> {
+    let len = words.number()?;
+    let fill = words.bytes()?;
     match fill.as_slice() {
-        [byte] => Ok(vec![in heap; *byte; len]?),
+        [byte] => Ok(vec![in words.heap; *byte; len]?),
         _ => Err(Fault::BadLine),
     }
 }
 
-fn read_writing(heap: Global, words: &mut SplitWhitespace) -> Result<Writing, Fault> {
-    let payload = read_payload(heap, words)?;
-    let places = next_word(words)?.parse::<usize>()?;
-    let sender = next_word(words)?.parse::<u32>()?;
-    let opcode = next_word(words)?.parse::<u16>()?;
-    let arguments = Arguments::read(heap, words)?;
+fn read_writing(words: &mut Words) -> Result<Writing, Fault> {
+    let payload = read_payload(words)?;
+    let places = words.number()?;
+    let sender = words.number()?;
+    let opcode = words.number()?;
+    let arguments = Arguments::read(words)?;
     Ok(Writing {
         payload,
         places,
@@ -101,14 +95,11 @@ fn read_writing(heap: Global, words: &mut SplitWhitespace) -> Result<Writing, Fa
     })
 }
 
-fn read_parsing(heap: Global, words: &mut SplitWhitespace) -> Result<Parsing, Fault> {
-    let raw = bytes(heap, next_word(words)?)?;
-    let signature = signature(next_word(words)?)?;
-    let room = next_word(words)?.parse::<usize>()?;
-    let marks = match words.next() {
-        Some(word) => marks(heap, word)?,
-        None => Vec::new(heap),
-    };
+fn read_parsing(words: &mut Words) -> Result<Parsing, Fault> {
+    let raw = words.bytes()?;
+    let signature = words.signature()?;
+    let room = words.number()?;
+    let marks = words.marks()?;
     Ok(Parsing {
         raw,
         signature,
@@ -117,9 +108,9 @@ fn read_parsing(heap: Global, words: &mut SplitWhitespace) -> Result<Parsing, Fa
     })
 }
 
-fn read_check(heap: Global, words: &mut SplitWhitespace) -> Result<Command, Fault> {
-    let signature = signature(next_word(words)?)?;
-    let arguments = Arguments::read(heap, words)?;
+fn read_check(words: &mut Words) -> Result<Command, Fault> {
+    let signature = words.signature()?;
+    let arguments = Arguments::read(words)?;
     Ok(Command::Check {
         signature,
         arguments,

@@ -1,7 +1,6 @@
 // Answers as text.
 use book::Book;
 use protocol::{OwnedFd, Refusal};
-use std::alloc::AllocError;
 use std::fmt;
 use wire::ArgumentView;
 
@@ -40,65 +39,70 @@ impl fmt::Display for Hex<'_> {
     }
 }
 
-// The mark of the file that a duplicate stands for.
-#[derive(Clone, Copy)]
-pub(crate) enum Mark {
-    Of(u64),
-    Closed,
-}
-
-impl Mark {
-    pub(crate) fn of(book: &Book, fd: OwnedFd) -> Mark {
-        match book.file(fd.into_raw_fd()) {
-            Ok(mark) => Mark::Of(mark),
-            Err(_) => Mark::Closed,
-        }
-    }
-}
-
-impl fmt::Display for Mark {
-    fn fmt<W: fmt::Write>(&self, f: &mut fmt::Formatter<W>) -> fmt::Result {
-        match self {
-            Mark::Of(mark) => write!(f, "{mark}"),
-            Mark::Closed => f.write_str("closed"),
-        }
-    }
-}
-
 // A refusal with the code of a failed duplication.
-pub(crate) fn add_refusal(out: &mut String, refusal: Refusal) -> Result<(), AllocError> {
-    match refusal {
-        Refusal::DupFailed(code) => write!(out, "{refusal} {code}"),
-        _ => write!(out, "{refusal}"),
-    }
-}
+#[derive(Clone, Copy)]
+pub(crate) struct Coded(pub(crate) Refusal);
 
-pub(crate) fn add_argument(
-    out: &mut String,
-    book: &Book,
-    argument: ArgumentView,
-) -> Result<(), AllocError> {
-    match argument {
-        ArgumentView::Int(n) => write!(out, " i:{n}"),
-        ArgumentView::Uint(n) => write!(out, " u:{n}"),
-        ArgumentView::Fixed(n) => write!(out, " f:{n}"),
-        ArgumentView::Str(bytes) => write!(out, " s:{}", Hex(bytes)),
-        ArgumentView::NullStr => write!(out, " S"),
-        ArgumentView::Object(id) => write!(out, " o:{id}"),
-        ArgumentView::NewId(id) => write!(out, " n:{id}"),
-        ArgumentView::Array(bytes) => write!(out, " a:{}", Hex(bytes)),
-        ArgumentView::Fd(fd) => write!(out, " h:#{}", Mark::of(book, fd)),
-    }
-}
-
-// The marks of duplicates, as `[7 8]`.
-pub(crate) fn add_marks(out: &mut String, book: &Book, fds: &[OwnedFd]) -> Result<(), AllocError> {
-    write!(out, "[")?;
-    for (i, fd) in fds.iter().enumerate() {
-        if i > 0 {
-            write!(out, " ")?;
+impl fmt::Display for Coded {
+    fn fmt<W: fmt::Write>(&self, f: &mut fmt::Formatter<W>) -> fmt::Result {
+        match self.0 {
+            Refusal::DupFailed(code) => write!(f, "{} {code}", self.0),
+            refusal => write!(f, "{refusal}"),
         }
-        write!(out, "{}", Mark::of(book, *fd))?;
     }
-    write!(out, "]")
+}
+
+// A value, shown with the marks of the files that its duplicates stand for in a book.
+#[derive(Clone, Copy)]
+pub(crate) struct Marked<'b, T> {
+    pub(crate) book: &'b Book,
+    pub(crate) value: T,
+}
+
+impl fmt::Display for Marked<'_, OwnedFd> {
+    fn fmt<W: fmt::Write>(&self, f: &mut fmt::Formatter<W>) -> fmt::Result {
+        match self.book.file(self.value.into_raw_fd()) {
+            Ok(mark) => write!(f, "{mark}"),
+            Err(_) => f.write_str("closed"),
+        }
+    }
+}
+
+// As `[7 8]`.
+impl fmt::Display for Marked<'_, &[OwnedFd]> {
+    fn fmt<W: fmt::Write>(&self, f: &mut fmt::Formatter<W>) -> fmt::Result {
+        let book = self.book;
+        f.write_str("[")?;
+        if let [first, rest @ ..] = self.value {
+            write!(
+                f,
+                "{}",
+                Marked {
+                    book,
+                    value: *first
+                }
+            )?;
+            for fd in rest {
+                write!(f, " {}", Marked { book, value: *fd })?;
+            }
+        }
+        f.write_str("]")
+    }
+}
+
+impl fmt::Display for Marked<'_, ArgumentView<'_>> {
+    fn fmt<W: fmt::Write>(&self, f: &mut fmt::Formatter<W>) -> fmt::Result {
+        let book = self.book;
+        match self.value {
+            ArgumentView::Int(n) => write!(f, "i:{n}"),
+            ArgumentView::Uint(n) => write!(f, "u:{n}"),
+            ArgumentView::Fixed(n) => write!(f, "f:{n}"),
+            ArgumentView::Str(bytes) => write!(f, "s:{}", Hex(bytes)),
+            ArgumentView::NullStr => f.write_str("S"),
+            ArgumentView::Object(id) => write!(f, "o:{id}"),
+            ArgumentView::NewId(id) => write!(f, "n:{id}"),
+            ArgumentView::Array(bytes) => write!(f, "a:{}", Hex(bytes)),
+            ArgumentView::Fd(fd) => write!(f, "h:#{}", Marked { book, value: fd }),
+        }
+    }
 }

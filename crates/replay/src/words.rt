@@ -1,43 +1,12 @@
 // The words of a line: numbers, bytes in hex, signatures and arguments.
-ghost use Rattle.std.specs.Prelude.{◌≡◌, ◌+◌, ◌<◌, ◌≤◌, IfOk, vec_len};
+ghost use Rattle.std.specs.Prelude.{◌≡◌, ◌+◌, ◌<◌, IfOk, vec_len};
 
+use crate::fault::Fault;
 use protocol::{Argument, RawFd, Text};
 use signature::{Notation, Signature};
-use std::alloc::{AllocError, AllocFailed, Global};
+use std::alloc::{AllocError, Global};
 use std::num::ParseIntError;
-use std::str::SplitWhitespace;
-
-// Why a line cannot be read.
-#[derive(Drop)]
-pub(crate) enum Fault {
-    BadLine,
-    NoMemory,
-}
-
-impl From<AllocError> for Fault {
-    fn from(_error: AllocError) -> Fault {
-        Fault::NoMemory
-    }
-}
-
-impl<T: Drop> From<AllocFailed<T>> for Fault {
-    fn from(_refused: AllocFailed<T>) -> Fault {
-        Fault::NoMemory
-    }
-}
-
-impl From<ParseIntError> for Fault {
-    fn from(_error: ParseIntError) -> Fault {
-        Fault::BadLine
-    }
-}
-
-pub(crate) fn next_word<'a>(words: &mut SplitWhitespace<'a>) -> Result<&'a str, Fault> {
-    match words.next() {
-        Some(word) => Ok(word),
-        None => Err(Fault::BadLine),
-    }
-}
+use std::str::{FromStr, SplitWhitespace};
 
 fn hex_digit(digit: u8) -> Result<u8, Fault>
     ensures { IfOk result (λ n. n < 16) }
@@ -49,68 +18,92 @@ fn hex_digit(digit: u8) -> Result<u8, Fault>
     }
 }
 
-fn push_hex(out: &mut Vec<u8>, digits: &[u8]) -> Result<(), Fault>
-    ensures { vec_len out.old ≤ vec_len out.new }
-{
-    for pair in digits.chunks(2) {
-        let [high, low] = pair else {
-            return Err(Fault::BadLine);
-        };
-        out.push((hex_digit(*high)? << 4) | hex_digit(*low)?)?;
-    }
-    Ok(())
-}
-
-// `61`, or `61*5` for five times these bytes.
-fn push_part(heap: Global, out: &mut Vec<u8>, part: &str) -> Result<(), Fault>
-    ensures { vec_len out.old ≤ vec_len out.new }
-{
-    let Some((digits, count)) = part.split_once('*') else {
-        return push_hex(out, part.as_bytes());
+fn hex_byte(digits: &[u8]) -> Result<u8, Fault> {
+    let [high, low] = digits else {
+        return Err(Fault::BadLine);
     };
-    let mut once = Vec::new(heap);
-    push_hex(&mut once, digits.as_bytes())?;
-    for _ in 0..count.parse::<usize>()? {
-        out.extend_from_slice(once.as_slice())?;
-    }
-    Ok(())
+    Ok((hex_digit(*high)? << 4) | hex_digit(*low)?)
 }
 
-// Adds the bytes of a word: `-` for none, or parts joined by `+`.
-fn push_bytes(heap: Global, out: &mut Vec<u8>, word: &str) -> Result<(), Fault>
-    ensures { vec_len out.old ≤ vec_len out.new }
-{
-    if word == "-" {
-        return Ok(());
-    }
-    for part in word.split('+') {
-        push_part(heap, out, part)?;
-    }
-    Ok(())
+// `-` stands for no letters.
+fn letters(word: &str) -> &str {
+    if word == "-" { "" } else { word }
 }
 
-pub(crate) fn bytes(heap: Global, word: &str) -> Result<Vec<u8>, Fault> {
-    let mut out = Vec::new(heap);
-    push_bytes(heap, &mut out, word)?;
-    Ok(out)
+// The words of a line that are still to be read.
+#[derive(Drop)]
+pub(crate) struct Words<'a> {
+    pub(crate) heap: Global,
+    words: SplitWhitespace<'a>,
 }
 
-// The types of a word: `-` for none, or libwayland's letters.
-pub(crate) fn signature(word: &str) -> Result<Signature, Fault> {
-    let letters = if word == "-" { "" } else { word };
-    match u8::read(letters.as_bytes()) {
-        Some(types) => Ok(types),
-        None => Err(Fault::BadLine),
+impl<'a> Words<'a> {
+    pub(crate) fn of(heap: Global, line: &'a str) -> Words<'a> {
+        Words {
+            heap,
+            words: line.split_whitespace(),
+        }
     }
-}
 
-// Marks joined by commas.
-pub(crate) fn marks(heap: Global, word: &str) -> Result<Vec<u64>, Fault> {
-    let mut marks = Vec::new(heap);
-    for mark in word.split(',') {
-        marks.push(mark.parse::<u64>()?)?;
+    pub(crate) fn next_word(&mut self) -> Option<&'a str> {
+        self.words.next()
     }
-    Ok(marks)
+
+    // The next word, which has to be there.
+    pub(crate) fn word(&mut self) -> Result<&'a str, Fault> {
+        self.words.next().ok_or(Fault::BadLine)
+    }
+
+    pub(crate) fn number<N: FromStr<Err = ParseIntError>>(&mut self) -> Result<N, Fault> {
+        Ok(self.word()?.parse::<N>()?)
+    }
+
+    pub(crate) fn bytes(&mut self) -> Result<Vec<u8>, Fault> {
+        let word = self.word()?;
+        self.bytes_of(word)
+    }
+
+    // The types that libwayland's letters say.
+    pub(crate) fn signature(&mut self) -> Result<Signature, Fault> {
+        let word = self.word()?;
+        u8::read(letters(word).as_bytes()).ok_or(Fault::BadLine)
+    }
+
+    // Marks joined by commas, or none at the end of the line.
+    pub(crate) fn marks(&mut self) -> Result<Vec<u64>, Fault> {
+        let Some(word) = self.words.next() else {
+            return Ok(Vec::new(self.heap));
+        };
+        word.split(',')
+            .map(|mark| -> Result<u64, Fault> { Ok(mark.parse::<u64>()?) })
+            .try_collect(self.heap)
+    }
+
+    // The bytes of parts joined by `+`.
+    fn bytes_of(&self, word: &str) -> Result<Vec<u8>, Fault> {
+        let mut bytes = Vec::new(self.heap);
+        for part in letters(word).split('+') {
+            bytes.extend_from_slice(self.bytes_of_part(part)?.as_slice())?;
+        }
+        Ok(bytes)
+    }
+
+    // `61`, or `61*5` for five times these bytes.
+    fn bytes_of_part(&self, part: &str) -> Result<Vec<u8>, Fault> {
+        let Some((digits, count)) = part.split_once('*') else {
+            return self.bytes_of_digits(part);
+        };
+        let once = self.bytes_of_digits(digits)?;
+        Ok(once.repeat(self.heap, count.parse::<usize>()?)?)
+    }
+
+    fn bytes_of_digits(&self, digits: &str) -> Result<Vec<u8>, Fault> {
+        digits
+            .as_bytes()
+            .chunks(2)
+            .map(hex_byte)
+            .try_collect(self.heap)
+    }
 }
 
 // Argument records, and the bytes that their strings and arrays are places of.
@@ -122,45 +115,45 @@ pub(crate) struct Arguments {
 
 impl Arguments {
     // The arguments that the words left name.
-    pub(crate) fn read(heap: Global, words: &mut SplitWhitespace) -> Result<Arguments, Fault> {
+    pub(crate) fn read(words: &mut Words) -> Result<Arguments, Fault> {
         let mut arguments = Arguments {
-            records: Vec::new(heap),
-            text: Vec::new(heap),
+            records: Vec::new(words.heap),
+            text: Vec::new(words.heap),
         };
-        while let Some(word) = words.next() {
-            let record = arguments.record(heap, word)?;
+        while let Some(word) = words.words.next() {
+            let record = arguments.record(words, word)?;
             arguments.records.push(record)?;
         }
         Ok(arguments)
     }
 
-    fn record(&mut self, heap: Global, word: &str) -> Result<Argument<RawFd>, Fault> {
+    fn record(&mut self, words: &Words, word: &str) -> Result<Argument<RawFd>, Fault> {
         if word == "S" {
             return Ok(Argument::NullStr);
         }
-        let Some((kind, value)) = word.split_once(':') else {
-            return Err(Fault::BadLine);
-        };
+        let (kind, value) = word.split_once(':').ok_or(Fault::BadLine)?;
         match kind {
             "i" => Ok(Argument::Int(value.parse::<i32>()?)),
             "u" => Ok(Argument::Uint(value.parse::<u32>()?)),
             "f" => Ok(Argument::Fixed(value.parse::<i32>()?)),
-            "s" => Ok(Argument::Str(self.add_text(heap, value)?)),
+            "s" => Ok(Argument::Str(self.add_text(words.bytes_of(value)?.as_slice())?)),
             "o" => Ok(Argument::Object(value.parse::<u32>()?)),
             "n" => Ok(Argument::NewId(value.parse::<u32>()?)),
-            "a" => Ok(Argument::Array(self.add_text(heap, value)?)),
+            "a" => Ok(Argument::Array(self.add_text(words.bytes_of(value)?.as_slice())?)),
             "h" => Ok(Argument::Fd(RawFd(value.parse::<u32>()?))),
             _ => Err(Fault::BadLine),
         }
     }
 
-    // The place of a word's bytes, which go to the end of the text.
-    fn add_text(&mut self, heap: Global, word: &str) -> Result<Text, Fault>
+    // The place of some bytes, which go to the end of the text.
+    fn add_text(&mut self, bytes: &[u8]) -> Result<Text, AllocError>
         ensures { IfOk result (λ t. (t.place ≡ vec_len self.old.text) × (t.place + t.len ≡ vec_len self.new.text)) }
     {
         let place = self.text.len();
-        push_bytes(heap, &mut self.text, word)?;
-        let len = self.text.len() - place;
-        Ok(Text { place, len })
+        self.text.extend_from_slice(bytes)?;
+        Ok(Text {
+            place,
+            len: bytes.len(),
+        })
     }
 }
