@@ -1,3 +1,1 @@
-mod Drafts
 mod First
-mod Lists

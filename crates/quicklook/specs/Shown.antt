@@ -4,7 +4,7 @@ use Rattle.protocol.specs.declared.fd.RawFd.{RawFd}
 use Rattle.wire.specs.Records.{value_of}
 use Rattle.wire.specs.Values.{Value, uint, string, array, descriptor}
 use Rattle.quicklook.specs.declared.draft.Draft.{Draft}
-use Rattle.quicklook.specs.declared.story.Exposure.{Exposure}
+use Rattle.quicklook.specs.declared.draft.Exposure.{Exposure}
 
 abbrev pub told : Exposure → List (Value RawFd)
 told e = uint e.number ∷ string e.filter.now ∷ string e.label.now ∷ array e.thumbnail.now ∷ descriptor e.picture ∷ []

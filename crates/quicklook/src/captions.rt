@@ -1,5 +1,5 @@
 ghost use Rattle.std.specs.Prelude.{◌≡◌, ◌+◌, ◌≤◌};
-ghost use Rattle.quicklook.specs.Captions.{parts_of, block_parts, covered};
+ghost use Rattle.quicklook.specs.Captions.{parts_of, word_parts, block_parts, covered};
 ghost use Rattle.wire.specs.Frame.{padding};
 ghost use Rattle.wire.specs.Records.{field_length};
 
@@ -24,6 +24,18 @@ fn padding_len(len: usize, more: usize) -> usize
     (4 - (len % 4 + more) % 4) % 4
 }
 
+// So many bytes of a number.
+fn word_parts(word: usize) -> Parts
+    ensures { result ≡ word_parts word }
+{
+    Parts {
+        word,
+        bytes: 0,
+        end: 0,
+        padding: 0,
+    }
+}
+
 // A length, so many bytes, and `end` bytes 0 behind them.
 fn block_parts(len: usize, end: usize) -> Parts
     requires { end ≤ 1 }
@@ -45,17 +57,7 @@ pub(crate) fn parts_of<Fd>(argument: &Argument<Fd>) -> Parts
     match argument {
         Argument::Str(text) => block_parts(text.len, 1),
         Argument::Array(text) => block_parts(text.len, 0),
-        Argument::Fd(_) => Parts {
-            word: 0,
-            bytes: 0,
-            end: 0,
-            padding: 0,
-        },
-        _ => Parts {
-            word: 4,
-            bytes: 0,
-            end: 0,
-            padding: 0,
-        },
+        Argument::Fd(_) => word_parts(0),
+        _ => word_parts(4),
     }
 }

@@ -1,11 +1,20 @@
-ghost use Rattle.std.specs.Prelude.{◌≡◌, [], ◌∷◌, ◌++◌, length, IfOk, vec_len, OnOk};
-ghost use Rattle.protocol.specs.declared.argument.Argument.TheVariants.{Uint, Str, Array, Fd};
-ghost use Rattle.wire.specs.Records.{text_at};
+ghost use Rattle.std.specs.Prelude.{◌≡◌, ◌++◌, length, IfOk, vec_len, OnOk};
+ghost use Rattle.quicklook.specs.Shown.{drafted, told};
 
 use protocol::{Argument, Message, RawFd, Text};
 use std::alloc::{AllocError, Global};
 
-// A message that is being put together: its arguments, and the bytes of its strings and arrays one after another.
+// What the queue knows of one exposure.
+#[derive(Clone, Copy)]
+pub(crate) struct Exposure<'a> {
+    pub(crate) number: u32,
+    pub(crate) filter: &'a [u8],
+    pub(crate) label: &'a [u8],
+    pub(crate) thumbnail: &'a [u8],
+    pub(crate) picture: RawFd,
+}
+
+// A message that is put together: its arguments, and the bytes of its strings and arrays one after another.
 #[derive(Drop)]
 pub(crate) struct Draft {
     args: Vec<Argument<RawFd>>,
@@ -26,51 +35,25 @@ fn append(text: &mut Vec<u8>, bytes: &[u8]) -> Result<Text, AllocError>
     })
 }
 
+// The arguments of `show` for an exposure.
+pub(crate) fn draft_of(heap: Global, exposure: &Exposure) -> Result<Draft, AllocError>
+    ensures { IfOk result (λ draft. drafted draft ≡ told exposure.now) }
+{
+    let mut text = Vec::new(heap);
+    let filter = append(&mut text, exposure.filter)?;
+    let label = append(&mut text, exposure.label)?;
+    let thumbnail = append(&mut text, exposure.thumbnail)?;
+    let args = vec![in heap;
+        Argument::Uint(exposure.number),
+        Argument::Str(filter),
+        Argument::Str(label),
+        Argument::Array(thumbnail),
+        Argument::Fd(exposure.picture),
+    ]?;
+    Ok(Draft { args, text })
+}
+
 impl Draft {
-    pub(crate) fn new(heap: Global) -> Draft
-        ensures args { result.args.items ≡ [] }
-        ensures text { result.text.items ≡ [] }
-    {
-        Draft {
-            args: Vec::new(heap),
-            text: Vec::new(heap),
-        }
-    }
-
-    pub(crate) fn uint(&mut self, n: u32) -> Result<(), AllocError>
-        ensures args { OnOk result (self.new.args.items ≡ self.old.args.items ++ Uint n ∷ []) }
-        ensures text { OnOk result (self.new.text.items ≡ self.old.text.items) }
-    {
-        self.args.push(Argument::Uint(n))?;
-        Ok(())
-    }
-
-    pub(crate) fn string(&mut self, bytes: &[u8]) -> Result<(), AllocError>
-        ensures args { OnOk result (self.new.args.items ≡ self.old.args.items ++ Str (text_at (vec_len self.old.text) (length bytes.now)) ∷ []) }
-        ensures text { OnOk result (self.new.text.items ≡ self.old.text.items ++ bytes.now) }
-    {
-        let text = append(&mut self.text, bytes)?;
-        self.args.push(Argument::Str(text))?;
-        Ok(())
-    }
-
-    pub(crate) fn array(&mut self, bytes: &[u8]) -> Result<(), AllocError>
-        ensures args { OnOk result (self.new.args.items ≡ self.old.args.items ++ Array (text_at (vec_len self.old.text) (length bytes.now)) ∷ []) }
-        ensures text { OnOk result (self.new.text.items ≡ self.old.text.items ++ bytes.now) }
-    {
-        let text = append(&mut self.text, bytes)?;
-        self.args.push(Argument::Array(text))?;
-        Ok(())
-    }
-
-    pub(crate) fn descriptor(&mut self, fd: RawFd) -> Result<(), AllocError>
-        ensures args { OnOk result (self.new.args.items ≡ self.old.args.items ++ Fd fd ∷ []) }
-        ensures text { OnOk result (self.new.text.items ≡ self.old.text.items) }
-    {
-        self.args.push(Argument::Fd(fd))?;
-        Ok(())
-    }
-
     pub(crate) fn message(&self, sender: u32, opcode: u16) -> Message<'_, RawFd>
         ensures head { (result.sender ≡ sender) × (result.opcode ≡ opcode) }
         ensures args { result.args.now ≡ self.now.args.items }

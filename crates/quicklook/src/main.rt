@@ -8,8 +8,7 @@ mod fault;
 mod show;
 mod story;
 
-use fault::Fault;
-
-fn main(rt: HostRuntime) -> Result<(), Fault> {
-    story::tell(&rt)
+fn main(rt: HostRuntime) -> anyhow::Result<()> {
+    story::tell(&rt)?;
+    Ok(())
 }

@@ -4,15 +4,13 @@ ghost use Rattle.book.specs.Files.{opened};
 ghost use Rattle.book.specs.View.{files};
 ghost use Rattle.wire.specs.Records.{numbers_in};
 ghost use Rattle.quicklook.specs.Pictures.{first};
-ghost use Rattle.quicklook.specs.Shown.{drafted, told};
 
-use crate::draft::Draft;
+use crate::draft::{Draft, Exposure, draft_of};
 use crate::fault::Fault;
-use crate::show::{print_duplicates, print_frame, print_screen};
+use crate::show::{Mark, Printer, print_frame};
 use book::Book;
-use protocol::{Argument, ArgumentType, OwnedFd, RawFd, check_for_signature};
+use protocol::{Argument, OwnedFd, RawFd, check_for_signature};
 use signature::{LetterSource, Row, Signature, SignatureSource};
-use std::alloc::{AllocError, Global};
 use wire::{parse_message, write_to_buffers};
 
 // The message `show` of the screen, with a letter and a name for each argument.
@@ -38,16 +36,6 @@ const NO_FD: OwnedFd = OwnedFd(u32::MAX);
 // The picture of the story, by the mark of its file.
 const MARK: u64 = 0x0b5e_2026_1117_0bc9;
 
-// What the queue knows of one exposure.
-#[derive(Clone, Copy)]
-pub(crate) struct Exposure<'a> {
-    pub(crate) number: u32,
-    pub(crate) filter: &'a [u8],
-    pub(crate) label: &'a [u8],
-    pub(crate) thumbnail: &'a [u8],
-    pub(crate) picture: RawFd,
-}
-
 // The exposure of the story under some label.
 fn labelled(label: &[u8], picture: RawFd) -> Exposure<'_> {
     Exposure {
@@ -57,19 +45,6 @@ fn labelled(label: &[u8], picture: RawFd) -> Exposure<'_> {
         thumbnail: &[16, 32, 48, 32, 16, 8, 80, 112, 80, 8],
         picture,
     }
-}
-
-// The arguments of `show` for an exposure.
-pub(crate) fn draft_of(heap: Global, exposure: &Exposure) -> Result<Draft, AllocError>
-    ensures { IfOk result (λ draft. drafted draft ≡ told exposure.now) }
-{
-    let mut draft = Draft::new(heap);
-    draft.uint(exposure.number)?;
-    draft.string(exposure.filter)?;
-    draft.string(exposure.label)?;
-    draft.array(exposure.thumbnail)?;
-    draft.descriptor(exposure.picture)?;
-    Ok(draft)
 }
 
 // The types of `show`, looked up in a source of one row.
@@ -83,10 +58,7 @@ fn signature_of_show(rt: &impl Print) -> Result<Signature, Fault> {
         len: LETTERS.len(),
     }];
     let source = LetterSource::new(&rows, LETTERS)?;
-    match source.signature(SCREEN, SHOW) {
-        Some(signature) => Ok(signature),
-        None => Err(Fault::NoSignature),
-    }
+    source.signature(SCREEN, SHOW).ok_or(Fault::NoSignature)
 }
 
 fn open_numbers(book: &Book) -> usize
@@ -99,114 +71,127 @@ fn open_numbers(book: &Book) -> usize
 fn picture_in(records: &[Argument<OwnedFd>]) -> Option<RawFd>
     ensures { option_map (λ fd. fd.0) result ≡ first (numbers_in records.now) }
 {
-    for record in records {
-        if let Argument::Fd(fd) = record {
-            return Some(fd.into_raw_fd());
-        }
-    }
-    None
+    records.iter().find_map(|record| match record {
+        Argument::Fd(fd) => Some(fd.into_raw_fd()),
+        _ => None,
+    })
 }
 
 fn open_picture(rt: &impl Print, book: &mut Book) -> Result<RawFd, Fault> {
     let picture = book.open(MARK)?;
     let number = picture.0;
-    println!(rt; "picture: file mark {MARK:#018x} is open as number {number}")?;
+    let mark = Mark(MARK);
+    println!(rt; "picture: {mark} is open as number {number}")?;
     Ok(picture)
 }
 
-// The queue tries to send a label that has a byte 0 in it.
-fn send_bad_label(rt: &HostRuntime, picture: RawFd, book: &mut Book) -> Result<(), Fault> {
-    let draft = draft_of(rt.alloc(), &labelled(b"NGC 7000\0east", picture))?;
-    let mut payload = [FILL; ROOM];
-    let mut places = [NO_FD];
-    let before = open_numbers(book);
-    match write_to_buffers(
-        &draft.message(SCREEN, SHOW),
-        &mut payload,
-        &mut places,
-        book,
-    ) {
-        Ok(_) => Err(Fault::NotRefused),
-        Err(why) => {
-            let after = open_numbers(book);
-            let stays = if payload == [FILL; ROOM] {
-                "as it was"
-            } else {
-                "changed"
-            };
-            println!(rt; "\nqueue, a label with a byte 0 in it: {why}")?;
-            println!(rt; "  the payload is {stays}; numbers open: {before} before, {after} after")?;
-            Ok(())
+// What a write fills: a payload, and a place for a duplicate.
+#[derive(Clone, Copy)]
+struct Buffers {
+    payload: [u8; ROOM],
+    places: [OwnedFd; 1],
+}
+
+const UNWRITTEN: Buffers = Buffers {
+    payload: [FILL; ROOM],
+    places: [NO_FD],
+};
+
+// The book that the queue and the screen share, the types of `show`, and where the story is printed.
+#[derive(Drop)]
+struct Link<'r, P> {
+    rt: &'r P,
+    book: Book,
+    signature: Signature,
+}
+
+impl<P: Print> Link<'_, P> {
+    fn printer(&self) -> Printer<'_, P> {
+        Printer {
+            rt: self.rt,
+            book: &self.book,
         }
     }
-}
 
-// The queue writes the frame of a message, with its duplicates; answers the frame's size.
-fn send(
-    rt: &impl Print,
-    draft: &Draft,
-    types: &[ArgumentType],
-    payload: &mut [u8],
-    places: &mut [OwnedFd],
-    book: &mut Book,
-) -> Result<usize, Fault>
-    ensures { IfOk result (λ size. size ≤ length payload.old) }
-{
-    let msg = draft.message(SCREEN, SHOW);
-    check_for_signature(types, msg.args)?;
-    let size = write_to_buffers(&msg, payload, places, book)?;
-    println!(rt; "\nqueue, the arguments fit the signature: a frame of {size} bytes")?;
-    print_frame(rt, &payload[0..size], &NAMES, msg.args)?;
-    print_duplicates(rt, places, book)?;
-    Ok(size)
-}
+    // The queue tries to send a label that has a byte 0 in it.
+    fn send_bad_label(&mut self, draft: &Draft) -> Result<(), Fault> {
+        let mut buffers = UNWRITTEN;
+        let before = open_numbers(&self.book);
+        let written = write_to_buffers(
+            &draft.message(SCREEN, SHOW),
+            &mut buffers.payload,
+            &mut buffers.places,
+            &mut self.book,
+        );
+        let Err(why) = written else {
+            return Err(Fault::NotRefused);
+        };
+        let after = open_numbers(&self.book);
+        let stays = if buffers.payload == UNWRITTEN.payload {
+            "as it was"
+        } else {
+            "changed"
+        };
+        println!(self.rt; "\nqueue, a label with a byte 0 in it: {why}")?;
+        println!(self.rt;
+            "  the payload is {stays}; numbers open: {before} before, {after} after"
+        )?;
+        Ok(())
+    }
 
-// The screen looks before the last byte of the frame has come.
-fn receive_early(
-    rt: &impl Print,
-    frame: &[u8],
-    types: &[ArgumentType],
-    duplicates: &[OwnedFd],
-) -> Result<(), Fault> {
-    let early = &frame[0..frame.len().saturating_sub(1)];
-    let mut cursor = 0;
-    let mut records = [Argument::NullStr; NAMES.len()];
-    match parse_message(early, types, duplicates, &mut cursor, &mut records) {
-        Ok(_) => Err(Fault::NotRefused),
-        Err(why) => {
-            println!(rt; "\nscreen, the frame without its last byte: {why}")?;
-            println!(rt; "  descriptor cursor: 0 before, {cursor} after")?;
-            Ok(())
+    // The queue writes the frame of a message, with its duplicates; answers the frame's size.
+    fn send(&mut self, draft: &Draft, buffers: &mut Buffers) -> Result<usize, Fault>
+        ensures { IfOk result (λ size. size ≤ length buffers.old.payload) }
+    {
+        let message = draft.message(SCREEN, SHOW);
+        check_for_signature(self.signature.types(), message.args)?;
+        let size = write_to_buffers(
+            &message,
+            &mut buffers.payload,
+            &mut buffers.places,
+            &mut self.book,
+        )?;
+        println!(self.rt; "\nqueue, the arguments fit the signature: a frame of {size} bytes")?;
+        print_frame(self.rt, &buffers.payload[0..size], &NAMES, message.args)?;
+        self.printer().duplicates(&buffers.places)?;
+        Ok(size)
+    }
+
+    // The screen looks before the last byte of the frame has come.
+    fn receive_early(&self, frame: &[u8], duplicates: &[OwnedFd]) -> Result<(), Fault> {
+        let early = &frame[0..frame.len().saturating_sub(1)];
+        let types = self.signature.types();
+        let mut cursor = 0;
+        let mut records = [Argument::NullStr; NAMES.len()];
+        let Err(why) = parse_message(early, types, duplicates, &mut cursor, &mut records) else {
+            return Err(Fault::NotRefused);
+        };
+        println!(self.rt; "\nscreen, the frame without its last byte: {why}")?;
+        println!(self.rt; "  descriptor cursor: 0 before, {cursor} after")?;
+        Ok(())
+    }
+
+    // The screen reads the frame and shows it; answers the picture, which is the screen's to close.
+    fn receive(&self, frame: &[u8], duplicates: &[OwnedFd]) -> Result<RawFd, Fault> {
+        let types = self.signature.types();
+        let mut cursor = 0;
+        let mut records = [Argument::NullStr; NAMES.len()];
+        let (header, _) = parse_message(frame, types, duplicates, &mut cursor, &mut records)?;
+        let size = header.size;
+        println!(self.rt;
+            "\nscreen, the whole frame: {size} bytes read, descriptor cursor {cursor}"
+        )?;
+        self.printer().screen(frame, &NAMES, &records)?;
+        picture_in(&records).ok_or(Fault::NoPicture)
+    }
+
+    fn compare_marks(&self, picture: RawFd) -> Result<(), Fault> {
+        if self.book.file(picture)? != MARK {
+            return Err(Fault::OtherPicture);
         }
+        println!(self.rt; "  this is the mark that was sent")?;
+        Ok(())
     }
-}
-
-// The screen reads the frame and shows it; answers the picture, which is the screen's to close.
-fn receive(
-    rt: &impl Print,
-    frame: &[u8],
-    types: &[ArgumentType],
-    duplicates: &[OwnedFd],
-    book: &Book,
-) -> Result<RawFd, Fault> {
-    let mut cursor = 0;
-    let mut records = [Argument::NullStr; NAMES.len()];
-    let (header, _) = parse_message(frame, types, duplicates, &mut cursor, &mut records)?;
-    let size = header.size;
-    println!(rt; "\nscreen, the whole frame: {size} bytes read, descriptor cursor {cursor}")?;
-    print_screen(rt, frame, &NAMES, &records, book)?;
-    match picture_in(&records) {
-        Some(picture) => Ok(picture),
-        None => Err(Fault::NoPicture),
-    }
-}
-
-fn compare_marks(rt: &impl Print, picture: RawFd, book: &Book) -> Result<(), Fault> {
-    if book.file(picture)? != MARK {
-        return Err(Fault::OtherPicture);
-    }
-    println!(rt; "  this is the mark that was sent")?;
-    Ok(())
 }
 
 // Opens the picture, sends it under its label, shows what arrives, and closes everything.
@@ -215,19 +200,23 @@ pub(crate) fn tell(rt: &HostRuntime) -> Result<(), Fault> {
     let mut book = Book::new();
     let picture = open_picture(rt, &mut book)?;
     let signature = signature_of_show(rt)?;
-    let types = signature.types();
-    send_bad_label(rt, picture, &mut book)?;
+    let mut link = Link {
+        rt,
+        book,
+        signature,
+    };
+    let bad = draft_of(rt.alloc(), &labelled(b"NGC 7000\0east", picture))?;
+    link.send_bad_label(&bad)?;
     let draft = draft_of(rt.alloc(), &labelled(b"NGC 7000 east", picture))?;
-    let mut payload = [FILL; ROOM];
-    let mut places = [NO_FD];
-    let size = send(rt, &draft, types, &mut payload, &mut places, &mut book)?;
-    let frame = &payload[0..size];
-    receive_early(rt, frame, types, &places)?;
-    let arrived = receive(rt, frame, types, &places, &book)?;
-    compare_marks(rt, arrived, &book)?;
-    book.close(arrived)?;
-    book.close(picture)?;
-    let left = open_numbers(&book);
+    let mut buffers = UNWRITTEN;
+    let size = link.send(&draft, &mut buffers)?;
+    let frame = &buffers.payload[0..size];
+    link.receive_early(frame, &buffers.places)?;
+    let arrived = link.receive(frame, &buffers.places)?;
+    link.compare_marks(arrived)?;
+    link.book.close(arrived)?;
+    link.book.close(picture)?;
+    let left = open_numbers(&link.book);
     println!(rt; "\nbook: all is closed, numbers open: {left}")?;
     Ok(())
 }
