@@ -50,9 +50,10 @@ pub(crate) fn read_command(heap: Global, line: &str) -> Result<Option<Command>, 
     let Some(name) = words.next_word().filter(|name| !name.starts_with('#')) else {
         return Ok(None);
     };
+    // An arm for each name, since each command reads words of its own.
     let command = match name {
         "open" => read_open(&mut words)?,
-        "close" => Command::Close(RawFd(words.number()?)),
+        "close" => Command::Close(RawFd(words.parse()?)),
         "write" => Command::Write(read_writing(&mut words)?),
         "parse" => Command::Parse(read_parsing(&mut words)?),
         "check" => read_check(&mut words)?,
@@ -65,14 +66,16 @@ pub(crate) fn read_command(heap: Global, line: &str) -> Result<Option<Command>, 
 }
 
 fn read_open(words: &mut Words) -> Result<Command, Fault> {
-    let mark = words.number()?;
-    let count = words.next_word().map_or(Ok(1), |word| word.parse::<usize>())?;
+    let mark = words.parse()?;
+    let count = words
+        .next_word()
+        .map_or(Ok(1), |word| word.parse::<usize>())?;
     Ok(Command::Open { mark, count })
 }
 
 // LEN bytes that are all FILL.
 fn read_payload(words: &mut Words) -> Result<Vec<u8>, Fault> {
-    let len = words.number()?;
+    let len = words.parse()?;
     let fill = words.bytes()?;
     match fill.as_slice() {
         [byte] => Ok(vec![in words.heap; *byte; len]?),
@@ -82,9 +85,9 @@ fn read_payload(words: &mut Words) -> Result<Vec<u8>, Fault> {
 
 fn read_writing(words: &mut Words) -> Result<Writing, Fault> {
     let payload = read_payload(words)?;
-    let places = words.number()?;
-    let sender = words.number()?;
-    let opcode = words.number()?;
+    let places = words.parse()?;
+    let sender = words.parse()?;
+    let opcode = words.parse()?;
     let arguments = Arguments::read(words)?;
     Ok(Writing {
         payload,
@@ -98,7 +101,7 @@ fn read_writing(words: &mut Words) -> Result<Writing, Fault> {
 fn read_parsing(words: &mut Words) -> Result<Parsing, Fault> {
     let raw = words.bytes()?;
     let signature = words.signature()?;
-    let room = words.number()?;
+    let room = words.parse()?;
     let marks = words.marks()?;
     Ok(Parsing {
         raw,

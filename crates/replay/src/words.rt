@@ -50,11 +50,11 @@ impl<'a> Words<'a> {
     }
 
     // The next word, which has to be there.
-    pub(crate) fn word(&mut self) -> Result<&'a str, Fault> {
+    fn word(&mut self) -> Result<&'a str, Fault> {
         self.words.next().ok_or(Fault::BadLine)
     }
 
-    pub(crate) fn number<N: FromStr<Err = ParseIntError>>(&mut self) -> Result<N, Fault> {
+    pub(crate) fn parse<N: FromStr<Err = ParseIntError>>(&mut self) -> Result<N, Fault> {
         Ok(self.word()?.parse::<N>()?)
     }
 
@@ -132,6 +132,7 @@ impl Arguments {
             return Ok(Argument::NullStr);
         }
         let (kind, value) = word.split_once(':').ok_or(Fault::BadLine)?;
+        // An arm for each letter, since each reads its value as another type.
         match kind {
             "i" => Ok(Argument::Int(value.parse::<i32>()?)),
             "u" => Ok(Argument::Uint(value.parse::<u32>()?)),
