@@ -42,7 +42,7 @@ impl fmt::Display for Mark {
 struct Captions<'a, P> {
     rt: &'a P,
     frame: &'a [u8],
-    // where the next part begins
+    // where the next part begins: the line of a part says so
     at: usize,
 }
 
