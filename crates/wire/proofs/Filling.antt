@@ -1,60 +1,75 @@
--- Filling the records of a frame's arguments, one after another.
-use Rattle.std.proofs.Common.{◌≡◌, ℕ, ◌+◌, ◌-◌, ◌^◌, ◌<◌, ◌≤◌, min, true, List, [], ◌∷◌, ◌++◌, length, get_or, drop, set, is_some, Some, None, Option, sym, refl, ap, ◌∙◌, subst, append-nil, arith}
-use Rattle.std.proofs.lemmas.List.{length_push, drop_all}
+-- Filling records with the arguments that a reader has left, one after another.
+use Rattle.std.proofs.Common.{◌≡◌, ℕ, ◌+◌, ◌-◌, ◌<◌, ◌≤◌, true, List, [], ◌∷◌, ◌++◌, length, take, drop, set, is_some, Some, None, Option, sym, refl, ap, ◌∙◌, subst, inl, inr, append-nil, append_assoc, length-append, arith, rules}
+use Rattle.std.specs.Option.{IsSome}
+use Rattle.std.proofs.lemmas.List.{take_all, take_more_set, nil_from_length}
 use Rattle.std.proofs.lemmas.Bool.{true≢false}
 use Rattle.protocol.specs.declared.argument.Argument.{Argument}
 use Rattle.protocol.specs.declared.argument.ArgumentType.{ArgumentType}
 use Rattle.protocol.specs.declared.fd.OwnedFd.{OwnedFd}
-use Rattle.wire.specs.Values.{Value, descriptors}
-use Rattle.wire.specs.Frame.{fields}
+use Rattle.wire.specs.declared.reader.Reader.{Reader}
+use Rattle.wire.specs.Values.{Value, carried, descriptors}
 use Rattle.wire.specs.Read.{values}
-use Rattle.wire.specs.Records.{records_of, field_length, carried_by}
+use Rattle.wire.specs.Records.{records_of}
 use Rattle.wire.specs.Answers.{Filled}
-use Rattle.wire.proofs.Walk.{Stepped, turn}
-use Rattle.wire.proofs.Appends.{followed, followed_before, fields_push, descriptors_push, records_more}
+use Rattle.wire.specs.Reader.{Gives, Took, left}
+use Rattle.wire.proofs.Walk.{before_got, length_records}
 
--- after i types, at a place of the frame and of the descriptors: the values read so far, and the records
-pub record Filling (ts : List ArgumentType) (f : List ℕ) (xs : List OwnedFd) (cursor : ℕ) (old : List (Argument OwnedFd)) (i at next : ℕ) (rs : List (Argument OwnedFd)) : Type 0 where
-  pub done : List (Value OwnedFd)
-  pub count : length done ≡ i
-  pub place : at ≡ 8 + length (fields done)
-  pub taken : next ≡ cursor + length (descriptors done)
-  pub records : rs ≡ records_of 8 done ++ drop i old
-  pub all : followed done (values (drop i ts) (drop at f) (drop next xs)) ≡ values ts (drop 8 f) (drop cursor xs)
+-- after i records: those that are filled, and then those of what is left, are the records of all
+pub record Filling (r₀ r : Reader) (i : ℕ) (rs : List (Argument OwnedFd)) : Type 0 where
+  pub all : List (Value OwnedFd)
+  pub rest : List (Value OwnedFd)
+  pub whole : left r₀ ≡ Some all
+  pub here : left r ≡ Some rest
+  pub kinds : i + length r.kinds.now ≡ length r₀.kinds.now
+  pub records : take i rs ++ records_of r.at rest ≡ records_of r₀.at all
+  pub fds : length r.fds.now + length (descriptors all) ≡ length (descriptors rest) + length r₀.fds.now
+  pub few : length r.fds.now ≤ length r₀.fds.now
 
-followed_none : {X : Type 0} (o : Option (List (Value X))) → followed [] o ≡ o
-followed_none None = refl
-followed_none (Some vs) = refl
+pub filling_none : (r : Reader) (rs : List (Argument OwnedFd)) → is_some (left r) ≡ true → Filling r r 0 rs
+filling_none r rs h = from (left r) refl h
+  where
+    from : (o : Option (List (Value OwnedFd))) → left r ≡ o → is_some o ≡ true → Filling r r 0 rs
+    from None e k = absurd (true≢false (sym k))
+    from (Some vs) e k = record { all = vs; rest = vs; whole = e; here = e; kinds = omega arith; records = refl; fds = omega arith; few = omega arith }
 
-module _ (ts : List ArgumentType) (f : List ℕ) (xs : List OwnedFd) (cursor : ℕ) (old : List (Argument OwnedFd)) where
-  pub filling_none : Filling ts f xs cursor old 0 8 cursor old
-  filling_none = record { done = []; count = refl; place = refl; taken = omega arith; records = refl; all = followed_none (values ts (drop 8 f) (drop cursor xs)) }
+module _ (r₀ r : Reader) (i : ℕ) (rs : List (Argument OwnedFd)) (w : Filling r₀ r i rs) where
+  -- there is a next argument
+  pub filling_goes : (r' : Reader) (o : Option (Argument OwnedFd)) → Took r o r' → i < length r₀.kinds.now → IsSome o
+  filling_goes r' None t h = elim t [
+    | inl e ↦ absurd (let k = ap length e in let n = w.kinds in omega arith)
+    | inr e ↦ (let s = sym w.here ∙ e in cc)
+  ]
+  filling_goes r' (Some a) t h = search rules
 
-  pub filling_more : (d : ArgumentType) (i at next n k : ℕ) (rs : List (Argument OwnedFd)) (a : Argument OwnedFd) → Filling ts f xs cursor old i at next rs
-      → Stepped (get_or ts i d) f at xs next a → i < length ts → length ts ≤ length old → at ≤ length f → length f < 2 ^ 64 → n ≡ min (field_length a) (2 ^ 64 - 1) → k ≡ length (carried_by a)
-      → Filling ts f xs cursor old (i + 1) (at + n) (next + k) (set rs i a)
-  filling_more d i at next n k rs a w s h r l m e q =
-      let t = turn ts d f at xs next a i n k s h l m e q in
-      let us = w.done in
-      let v = s.value in
-      let p = fields_push w.done s.value in
-      let c = descriptors_push w.done s.value in
+  pub filling_more : (r' : Reader) (a : Argument OwnedFd) → Took r (Some a) r' → i < length rs → Filling r₀ r' (i + 1) (set rs i a)
+  filling_more r' a t h =
+      let b = t.2 in
+      let g = before_got t.0 (left r') w.rest (sym b.rest ∙ w.here) in
       record {
-        done = w.done ++ s.value ∷ [];
-        count = length_push w.done s.value ∙ ap (λ (j : ℕ). j + 1) w.count;
-        place = omega (arith, t.0, w.place);
-        taken = omega (arith, q, s.carries, w.taken);
-        records = ap (set rs i) s.is ∙ records_more w.done s.value rs old i at w.count w.place (omega arith) w.records;
-        all = sym (followed_before w.done s.value (values (drop (i + 1) ts) (drop (at + n) f) (drop (next + k) xs))) ∙ ap (followed w.done) (sym t.2) ∙ w.all;
+        all = w.all;
+        rest = g.0;
+        whole = w.whole;
+        here = g.1;
+        kinds = omega (arith, b.kinds, w.kinds);
+        records =
+            ap (λ (x : List (Argument OwnedFd)). x ++ records_of r'.at g.0) (take_more_set rs i a h)
+            ∙ append_assoc (take i rs) (a ∷ []) (records_of r'.at g.0)
+            ∙ ap (λ (x : List (Argument OwnedFd)). take i rs ++ x) (let e = t.1 in let p = b.at in cc)
+            ∙ ap (λ (x : List (Value OwnedFd)). take i rs ++ records_of r.at x) (sym g.2)
+            ∙ w.records;
+        fds = (let n = ap (λ (x : List (Value OwnedFd)). length (descriptors x)) g.2 ∙ length-append (carried t.0) (descriptors g.0) in omega (arith, b.fds, w.fds));
+        few = omega (arith, b.fds, w.few);
       }
 
-  pub filling_stuck : (i at next : ℕ) (rs : List (Argument OwnedFd)) → Filling ts f xs cursor old i at next rs → values (drop i ts) (drop at f) (drop next xs) ≡ None
-      → is_some (values ts (drop 8 f) (drop cursor xs)) ≡ true → ⊥
-  filling_stuck i at next rs w e h = let o = sym (ap (followed w.done) e) ∙ w.all in let z : ◌≡◌ {A = ℕ} 0 1 = absurd (true≢false (sym h ∙ ap is_some (sym o))) in omega arith
+  pub filling_all : i ≡ length r₀.kinds.now → length rs ≤ i → Gives (left r₀) r₀.at (length r₀.fds.now - length r.fds.now) rs
+  filling_all k l =
+      let none : length r.kinds.now ≡ 0 = omega (arith, w.kinds) in
+      let last : values [] r.bytes.now r.fds.now ≡ Some w.rest = ap (λ (ks : List ArgumentType). values ks r.bytes.now r.fds.now) (sym (nil_from_length r.kinds.now none)) ∙ w.here in
+      let empty : [] ≡ w.rest = cc in
+      subst (λ (o : Option (List (Value OwnedFd))). Gives o r₀.at (length r₀.fds.now - length r.fds.now) rs) (sym w.whole)
+      ((let n = ap (λ (x : List (Value OwnedFd)). length (descriptors x)) empty in omega (arith, w.fds)), sym (append-nil rs) ∙ ap (λ (x : List (Argument OwnedFd)). x ++ []) (sym (take_all i rs l)) ∙ ap (λ (x : List (Value OwnedFd)). take i rs ++ records_of r.at x) empty ∙ w.records)
 
-  pub filling_all : (i at next : ℕ) (rs : List (Argument OwnedFd)) → Filling ts f xs cursor old i at next rs → length ts ≤ i → Filled (values ts (drop 8 f) (drop cursor xs)) cursor old next rs
-  filling_all i at next rs w h =
-      let o : Some w.done ≡ values ts (drop 8 f) (drop cursor xs) =
-      ap Some (sym (append-nil w.done)) ∙ ap (λ us. followed w.done (values us (drop at f) (drop next xs))) (sym (drop_all i ts h)) ∙ w.all in
-      subst (λ (v : Option (List (Value OwnedFd))). Filled v cursor old next rs) o
-      (w.taken, w.records ∙ ap (λ (j : ℕ). records_of 8 w.done ++ drop j old) (sym w.count))
+-- the first records of a caller, filled, and its cursor moved on
+pub filled : (o : Option (List (Value OwnedFd))) (n k cursor : ℕ) (fs rs : List (Argument OwnedFd)) → Gives o 8 n fs → length fs ≡ k → Filled o cursor rs (cursor + n) (fs ++ drop k rs)
+filled None n k cursor fs rs g l = g
+filled (Some vs) n k cursor fs rs g l = (ap (λ m. cursor + m) g.0, ap (λ (x : List (Argument OwnedFd)). x ++ drop k rs) g.1 ∙ ap (λ (m : ℕ). records_of 8 vs ++ drop m rs) (sym l ∙ ap length g.1 ∙ length_records 8 vs))

@@ -10,11 +10,11 @@ use Rattle.protocol.specs.declared.refusal.Refusal.TheVariants.{MissingData, Mal
 use Rattle.protocol.specs.Types.{kind}
 use Rattle.wire.specs.Values.{Value, int, uint, fixed, object, new_id, descriptor, carried, descriptors}
 use Rattle.wire.specs.Frame.{Fits, known, word, padding, block, field, fields}
-use Rattle.wire.specs.Read.{Parsed, word_at, number, whole, inner, text, first, one, then, before, values, fd_count, size_at, opcode_at, parsed}
+use Rattle.wire.specs.Read.{Parsed, word_at, number, whole, inner, text, first, one, before, values, fd_count, size_at, opcode_at, parsed}
 use Rattle.wire.specs.Laws.{type_of_value, Carries, Typed, Framed, GivesFrames}
 use Rattle.wire.proofs.Fitting.{block_fits, fits_join, known_fits, word_bytes}
 use Rattle.wire.proofs.Parsing.{given_as}
-use Rattle.wire.proofs.Walk.{length_block, one_within, number_got, text_got, array_got, whole_fits, length_inner}
+use Rattle.wire.proofs.Walk.{length_block, then_got, before_got, one_within, number_got, text_got, array_got, whole_fits, length_inner}
 use Rattle.wire.proofs.Outcomes.{passed, past}
 
 -- each of them is a byte
@@ -101,14 +101,6 @@ record AllGiven {X : Type 0} (ts : List ArgumentType) (bs : List ℕ) (xs : List
   fits : Fits (fields vs) (take (length (fields vs)) bs)
   inside : length (fields vs) ≤ length bs
   taken : xs ≡ descriptors vs ++ drop (length (descriptors vs)) xs
-
-pub then_got : {X : Type 0} (o : Option (Value X)) (next : Value X → Option (List (Value X))) (vs : List (Value X)) → then o next ≡ Some vs → (v : Value X) × (o ≡ Some v) × (next v ≡ Some vs)
-then_got None next vs e = absurd (let z : ◌≡◌ {A = ℕ} 0 1 = cc in omega arith)
-then_got (Some v) next vs e = (v, refl, e)
-
-pub before_got : {X : Type 0} (v : Value X) (o : Option (List (Value X))) (vs : List (Value X)) → before v o ≡ Some vs → (us : List (Value X)) × (o ≡ Some us) × (vs ≡ v ∷ us)
-before_got v None vs e = absurd (let z : ◌≡◌ {A = ℕ} 0 1 = cc in omega arith)
-before_got v (Some us) vs e = (us, refl, cc)
 
 all_given : {X : Type 0} (ts : List ArgumentType) (bs : List ℕ) (xs : List X) (vs : List (Value X)) → Bytes bs → values ts bs xs ≡ Some vs → AllGiven ts bs xs vs
 all_given [] bs xs vs h e = let q : [] ≡ vs = cc in subst (AllGiven [] bs xs) q (record { typed = tt; fits = tt; inside = omega arith; taken = refl })

@@ -1,7 +1,7 @@
 -- Laws of writing a frame over bytes, part by part.
-use Rattle.std.proofs.Common.{◌≡◌, ℕ, zero, suc, ◌+◌, ◌<◌, ◌≤◌, List, [], ◌∷◌, ◌++◌, length, drop, set, replicate, Some, None, Option, sym, refl, ap, ◌∙◌, arith}
+use Rattle.std.proofs.Common.{◌≡◌, ℕ, zero, suc, ◌+◌, ◌-◌, ◌≤◌, List, [], ◌∷◌, ◌++◌, length, take, drop, replicate, Some, None, Option, sym, refl, ap, ◌∙◌, append-nil, arith}
 use borrow.Rule.Slice.PartMut.{put_mid}
-use Rattle.std.proofs.lemmas.List.{append_assoc, length-append, length-replicate, replicate-append-replicate}
+use Rattle.std.proofs.lemmas.List.{append_assoc, length-append, length-replicate, replicate-append-replicate, drop_all, take_rest}
 use Rattle.wire.specs.Frame.{overlay, known, word, block, padding}
 use Rattle.wire.specs.Place.{lay}
 use Rattle.wire.proofs.Walk.{length_known}
@@ -46,12 +46,6 @@ lay_known zero bs p h = overlay_known bs p (omega arith)
 lay_known (suc at) bs [] h = absurd (let z : suc at + length bs ≤ 0 = h in omega arith)
 lay_known (suc at) bs (c ∷ p) h = ap (λ q. c ∷ q) (lay_known at bs p (let z : suc at + length bs ≤ suc (length p) = h in omega arith))
 
-pub lay_one : (at b : ℕ) (p : List ℕ) → at < length p → lay at (Some b ∷ []) p ≡ set p at b
-lay_one zero b [] h = absurd (omega arith)
-lay_one zero b (c ∷ p) h = refl
-lay_one (suc at) b [] h = absurd (let z : suc at < 0 = h in omega arith)
-lay_one (suc at) b (c ∷ p) h = ap (λ q. c ∷ q) (lay_one at b p (let z : suc at < suc (length p) = h in omega arith))
-
 pub length_lay : (at : ℕ) (f : List (Option ℕ)) (p : List ℕ) → length (lay at f p) ≡ length p
 length_lay at f p = length_overlay (replicate at None ++ f) p
 
@@ -66,29 +60,29 @@ lay_block at bs p =
     ∙ lay_append (at + 4) (known bs) (replicate (padding (length bs)) None) (lay at (known (word (length bs))) p)
     ∙ lay_holes (at + 4 + length (known bs)) (padding (length bs)) (lay (at + 4) (known bs) (lay at (known (word (length bs))) p))
 
--- the code's writes of an array and of a string
-pub array_laid : (at : ℕ) (bs p q r : List ℕ) → at + 4 + length bs ≤ length p → q ≡ put_mid at 4 p (word (length bs)) → r ≡ put_mid (at + 4) (length bs) q bs → r ≡ lay at (block bs) p
-array_laid at bs p q r h e d =
-    let e' : q ≡ lay at (known (word (length bs))) p = e ∙ sym (lay_known at (word (length bs)) p (omega arith)) in
-    let l : length q ≡ length p = ap length e' ∙ length_lay at (known (word (length bs))) p in
-    d ∙ sym (lay_known (at + 4) bs q (omega arith)) ∙ ap (lay (at + 4) (known bs)) e' ∙ sym (lay_block at bs p)
+-- the code's write of a block: a length, then the bytes, and their end
+pub block_laid : (bs end p q : List ℕ) (k₁ k₂ : ℕ) → 4 + (length bs + length end) ≤ length p → k₁ ≡ length bs → k₂ ≡ length end → q ≡ overlay (known (word (length bs + length end))) p
+    → put_mid (4 + length bs) k₂ (put_mid 4 k₁ q bs) end ≡ overlay (block (bs ++ end)) p
+block_laid bs end p q k₁ k₂ h e₁ e₂ d =
+    let d' : q ≡ lay 0 (known (word (length (bs ++ end)))) p = d ∙ ap (λ (n : ℕ). overlay (known (word n)) p) (sym (length-append bs end)) in
+    let l : length q ≡ length p = ap length d' ∙ length_lay 0 (known (word (length (bs ++ end)))) p in
+    let m : length (lay 4 (known bs) q) ≡ length q = length_lay 4 (known bs) q in
+    ap (λ (k : ℕ). put_mid (4 + length bs) k₂ (put_mid 4 k q bs) end) e₁
+    ∙ ap (λ (x : List ℕ). put_mid (4 + length bs) k₂ x end) (sym (lay_known 4 bs q (omega arith)))
+    ∙ ap (λ (k : ℕ). put_mid (4 + length bs) k (lay 4 (known bs) q) end) e₂
+    ∙ sym (lay_known (4 + length bs) end (lay 4 (known bs) q) (omega arith))
+    ∙ ap (λ (n : ℕ). lay (4 + n) (known end) (lay 4 (known bs) q)) (sym (length_known bs))
+    ∙ sym (lay_append 4 (known bs) (known end) q)
+    ∙ ap (λ f. lay 4 f q) (sym (known_append bs end))
+    ∙ ap (lay 4 (known (bs ++ end))) d'
+    ∙ sym (lay_block 0 (bs ++ end) p)
 
-pub string_laid : (at n : ℕ) (bs p q r : List ℕ) → n ≡ length bs → at + 5 + length bs ≤ length p → q ≡ put_mid at 4 p (word (n + 1)) → r ≡ put_mid (at + 4) (length bs) q bs
-    → set r (at + 4 + n) 0 ≡ lay at (block (bs ++ 0 ∷ [])) p
-string_laid at n bs p q r m h e d =
-    let w : n + 1 ≡ length (bs ++ 0 ∷ []) = sym (length-append bs (0 ∷ []) ∙ ap (λ (k : ℕ). k + 1) (sym m)) in
-    let e' : q ≡ lay at (known (word (length (bs ++ 0 ∷ [])))) p = e ∙ ap (λ (k : ℕ). put_mid at 4 p (word k)) w ∙ sym (lay_known at (word (length (bs ++ 0 ∷ []))) p (omega arith)) in
-    let l : length q ≡ length p = ap length e' ∙ length_lay at (known (word (length (bs ++ 0 ∷ [])))) p in
-    let d' : r ≡ lay (at + 4) (known bs) q = d ∙ sym (lay_known (at + 4) bs q (omega arith)) in
-    let k : length r ≡ length q = ap length d' ∙ length_lay (at + 4) (known bs) q in
-    sym (lay_one (at + 4 + n) 0 r (omega arith))
-    ∙ ap (lay (at + 4 + n) (Some 0 ∷ [])) d'
-    ∙ ap (λ (j : ℕ). lay (at + 4 + j) (Some 0 ∷ []) (lay (at + 4) (known bs) q)) (m ∙ sym (length_known bs))
-    ∙ sym (lay_append (at + 4) (known bs) (Some 0 ∷ []) q)
-    ∙ ap (λ f. lay (at + 4) f q) (sym (known_append bs (0 ∷ [])))
-    ∙ ap (lay (at + 4) (known (bs ++ 0 ∷ []))) e'
-    ∙ sym (lay_block at (bs ++ 0 ∷ []) p)
+mid_laid : (at k : ℕ) (f : List (Option ℕ)) (p : List ℕ) → at + k ≡ length p → put_mid at k p (overlay f (drop at p)) ≡ lay at f p
+mid_laid zero k f p h = ap (λ r. overlay f p ++ r) (drop_all k p (omega arith)) ∙ append-nil (overlay f p)
+mid_laid (suc at) k f [] h = absurd (let z : suc at + k ≡ 0 = h in omega arith)
+mid_laid (suc at) k f (c ∷ p) h = ap (λ q. c ∷ q) (mid_laid at k f p (let z : suc at + k ≡ suc (length p) = h in omega arith))
 
--- the code's write of a word
-pub word_laid : (at n : ℕ) (f : List (Option ℕ)) (p q : List ℕ) → at + 4 ≤ length p → f ≡ known (word n) → q ≡ put_mid at 4 p (word n) → q ≡ lay at f p
-word_laid at n f p q h e d = d ∙ sym (lay_known at (word n) p h) ∙ ap (λ g. lay at g p) (sym e)
+-- the code's write into the part of the bytes from a place on
+pub part_laid : (at k : ℕ) (f : List (Option ℕ)) (p q : List ℕ) → at ≤ length p → k ≡ length p - at → q ≡ overlay f (take k (drop at p)) → put_mid at k p q ≡ lay at f p
+part_laid at k f p q h e d =
+    ap (put_mid at k p) (d ∙ ap (λ (n : ℕ). overlay f (take n (drop at p))) e ∙ ap (overlay f) (take_rest p at)) ∙ mid_laid at k f p (omega arith)

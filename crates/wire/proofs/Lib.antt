@@ -1,10 +1,9 @@
-mod Appends
-mod AtPlace
 mod Copies
 mod Filling
 pub mod Fitting
 pub mod Giving
 mod Laying
+mod Moving
 mod Outcomes
 pub mod Parsing
 mod Placing

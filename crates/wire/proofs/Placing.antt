@@ -1,5 +1,6 @@
 -- Duplicating the descriptors of a message into the free places, one after another.
-use Rattle.std.proofs.Common.{◌≡◌, ℕ, ◌+◌, ◌-◌, ◌<◌, true, List, [], ◌∷◌, ◌++◌, length, drop, set, is_some, Some, None, Ok, Err, Option, sym, refl, ap, ◌∙◌, subst, inl, inr, append-nil, arith}
+use Rattle.std.proofs.Common.{◌≡◌, ℕ, ◌+◌, ◌-◌, ◌<◌, true, List, [], ◌∷◌, ◌++◌, length, drop, set, is_some, Some, None, Ok, Err, Option, Result, sym, refl, ap, ◌∙◌, subst, inl, inr, append-nil, arith, rules}
+use Rattle.std.specs.Result.{IsOk}
 use Rattle.std.proofs.lemmas.List.{append_assoc, drop_more, length_push, set_at}
 use Rattle.std.proofs.lemmas.Bool.{true≢false}
 use Rattle.protocol.specs.declared.fd.OwnedFd.{OwnedFd}
@@ -39,14 +40,15 @@ module _ (all : List RawFd) (fs₀ : Files) (old : List OwnedFd) where
     named : (x : ℕ) × (file_of fs₀ n.0 ≡ Some x) × (file_of fs n.0 ≡ Some x)
     named = let f = some_file (file_of fs₀ n.0) (dup_split fs₀ (numbers - opened fs) n ns p.can).0 in (f.0, f.1, p.kept n.0 f.0 f.1)
 
-    pub placing_refused : (fs' : Files) (why : Refusal) → Duplicates n.0 fs (Err why) fs' → ⊥
-    placing_refused fs' why d = elim d.0 [
+    pub placing_goes : (fs' : Files) (r : Result OwnedFd Refusal) → Duplicates n.0 fs r fs' → IsOk r
+    placing_goes fs' (Ok m) d = search rules
+    placing_goes fs' (Err why) d = absurd (elim d.0 [
       | inl m ↦ true≢false (ap is_some (sym named.2 ∙ m.1))
       | inr f ↦ (let e = f.2 in let l = room.0 in omega arith)
-    ]
+    ])
 
-    pub placing_more : (fs' : Files) (m : OwnedFd) → Duplicates n.0 fs (Ok m) fs' → length fs ≡ numbers → count < length old → Placing all fs₀ old ns fs' (count + 1) (set places count m)
-    placing_more fs' m d l h =
+    placed_one : (fs' : Files) (m : OwnedFd) → Duplicates n.0 fs (Ok m) fs' → length fs ≡ numbers → count < length old → Placing all fs₀ old ns fs' (count + 1) (set places count m)
+    placed_one fs' m d l h =
         let o = enters_opened d.0 m.0 fs fs' l d.2 in
         let left : numbers - opened fs - 1 ≡ numbers - opened fs' = omega arith in
         let file : named.0 ≡ d.0 = (let a = named.2 in let b = d.1 in cc) in
@@ -65,6 +67,9 @@ module _ (all : List RawFd) (fs₀ : Files) (old : List OwnedFd) where
               (p.ends (m ∷ ms) gs
               (d.0, named.1 ∙ ap Some file, record { below = d.2.below; unused = d.2.unused; after = refl }, subst (λ (x : Files). Copied fs₀ ns x ms gs) d.2.after c));
         }
+
+    pub placing_more : (fs' : Files) (m : OwnedFd) (at k : ℕ) → Duplicates n.0 fs (Ok m) fs' → length fs ≡ numbers → count < length old → at ≡ count → k ≡ count + 1 → Placing all fs₀ old ns fs' k (set places at m)
+    placing_more fs' m at k d l h ea ek = subst (λ (j : ℕ). Placing all fs₀ old ns fs' j (set places at m)) (sym ek) (subst (λ (j : ℕ). Placing all fs₀ old ns fs' (count + 1) (set places j m)) (sym ea) (placed_one fs' m d l h))
 
   pub placing_all : (fs : Files) (count : ℕ) (places : List OwnedFd) → Placing all fs₀ old [] fs count places → Placed all old fs₀ places fs
   placing_all fs count places p = record {

@@ -12,11 +12,10 @@ use Rattle.wire.specs.Frame.{field}
 use Rattle.wire.specs.Read.{Parsed, word_at, number, whole, inner, text, one, before, values, size_at, parsed}
 use Rattle.wire.specs.Records.{bytes_of, text_at, block_length, record_of, records_of, value_in}
 use Rattle.wire.specs.Answers.{Filled, Shows}
-use Rattle.wire.proofs.Appends.{length_records}
-use Rattle.wire.proofs.Walk.{number_got, text_got, array_got, whole_fits, length_inner}
+use Rattle.wire.proofs.Walk.{length_records}
+use Rattle.wire.proofs.Walk.{then_got, before_got, number_got, text_got, array_got, whole_fits, length_inner}
 use Rattle.wire.proofs.Outcomes.{passed}
 use Rattle.wire.proofs.Parsing.{given_as}
-use Rattle.wire.proofs.Giving.{then_got, before_got}
 
 -- the first bytes behind the length at a place
 module _ (f : List ℕ) (at : ℕ) (w : whole (drop at f) ≡ true) where

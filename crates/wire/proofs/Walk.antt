@@ -1,6 +1,6 @@
 -- One step of reading the arguments of a frame, one after another.
-use Rattle.std.proofs.Common.{◌≡◌, ℕ, suc, ◌+◌, ◌-◌, ◌^◌, ◌<◌, ◌≤◌, min, true, cond, leb, ◌⊎◌, List, [], ◌∷◌, ◌++◌, length, get_or, take, drop, is_some, Some, None, Option, sym, refl, ap, ◌∙◌, subst, inl, inr, arith, w32, to_z}
-use Rattle.std.proofs.lemmas.List.{length-append, length-replicate, length-take, length-drop, drop-drop, drop_more, take_more, take_all}
+use Rattle.std.proofs.Common.{◌≡◌, ℕ, suc, ◌+◌, ◌-◌, ◌<◌, ◌≤◌, true, cond, leb, ◌⊎◌, List, [], ◌∷◌, ◌++◌, length, get_or, take, Some, None, Option, sym, refl, ap, ◌∙◌, subst, inl, inr, arith, w32, to_z}
+use Rattle.std.proofs.lemmas.List.{length-append, length-replicate, length-take, length-drop, take_more, take_all}
 use Rattle.std.proofs.lemmas.Bool.{cond-true, cond-false, leb-true, and_parts, cases_eq, eq-eqb, ne_eqb, eqb-true}
 use Rattle.std.specs.Option.{option_map}
 use Rattle.protocol.specs.declared.argument.Argument.{Argument}
@@ -8,9 +8,9 @@ use Rattle.protocol.specs.declared.argument.ArgumentType.{ArgumentType}
 use Rattle.protocol.specs.declared.argument.ArgumentType.TheVariants as type
 use Rattle.wire.specs.Values.{Value, int, uint, fixed, string, null, object, new_id, array, descriptor, carried}
 use Rattle.wire.specs.Frame.{known, block, field}
-use Rattle.wire.specs.Read.{word_at, number, no_zero, whole, inner, ended, text, one, then, before, values, fd_of}
-use Rattle.wire.specs.Records.{block_length, field_length, carried_by, record_of}
-use Rattle.wire.proofs.Outcomes.{mapped_some, mapped_none, passed}
+use Rattle.wire.specs.Read.{word_at, number, no_zero, whole, inner, ended, text, one, then, before}
+use Rattle.wire.specs.Records.{block_length, field_length, carried_by, record_of, records_of}
+use Rattle.wire.proofs.Outcomes.{mapped_some, passed}
 
 pub length_known : (bs : List ℕ) → length (known bs) ≡ length bs
 length_known [] = refl
@@ -110,75 +110,39 @@ one_within type.Array bs xs v e =
 one_within type.Fd bs [] v e = absurd (let z : ◌≡◌ {A = ℕ} 0 1 = cc in omega arith)
 one_within type.Fd bs (x ∷ xs) v e = let q : descriptor x ≡ v = cc in subst (Within bs (x ∷ xs)) q (omega arith, omega arith)
 
--- one argument on: what is left decides
-pub step : {X : Type 0} (t : ArgumentType) (ts : List ArgumentType) (f : List ℕ) (at : ℕ) (xs : List X) (next : ℕ) (v : Value X)
-    → one t (drop at f) (drop next xs) ≡ Some v
-    → values (t ∷ ts) (drop at f) (drop next xs) ≡ before v (values ts (drop (at + length (field v)) f) (drop (next + length (carried v)) xs))
-step t ts f at xs next v e =
-    ap (λ o. then o (λ w. before w (values ts (drop (length (field w)) (drop at f)) (drop (length (carried w)) (drop next xs))))) e
-    ∙ ap (λ bs. before v (values ts bs (drop (length (carried v)) (drop next xs)))) (drop-drop (length (field v)) at f)
-    ∙ ap (λ ys. before v (values ts (drop (at + length (field v)) f) ys)) (drop-drop (length (carried v)) next xs)
-
-pub stuck : {X : Type 0} (t : ArgumentType) (ts : List ArgumentType) (bs : List ℕ) (xs : List X) → one t bs xs ≡ None → values (t ∷ ts) bs xs ≡ None
-stuck t ts bs xs e = ap (λ o. then o (λ w. before w (values ts (drop (length (field w)) bs) (drop (length (carried w)) xs)))) e
-
-pub some_before : {X : Type 0} (v : Value X) (o : Option (List (Value X))) → is_some (before v o) ≡ is_some o
-some_before v None = refl
-some_before v (Some vs) = refl
-
 -- an argument that was read at a place, by its record
-pub record Stepped {X : Type 0} (t : ArgumentType) (f : List ℕ) (at : ℕ) (xs : List X) (next : ℕ) (a : Argument X) : Type 0 where
+pub record Stepped {X : Type 0} (t : ArgumentType) (at : ℕ) (bs : List ℕ) (xs : List X) (a : Argument X) : Type 0 where
   pub value : Value X
-  pub read : one t (drop at f) (drop next xs) ≡ Some value
+  pub read : one t bs xs ≡ Some value
   pub is : a ≡ record_of at value
   pub size : field_length a ≡ length (field value)
-  pub inside : length (field value) ≤ length f - at
+  pub inside : length (field value) ≤ length bs
   pub carries : length (carried_by a) ≡ length (carried value)
-  pub there : length (carried value) ≤ length xs - next
+  pub there : length (carried value) ≤ length xs
 
-pub stepped : {X : Type 0} (t : ArgumentType) (f : List ℕ) (at : ℕ) (xs : List X) (next : ℕ) (a : Argument X) → Some a ≡ option_map (record_of at) (one t (drop at f) (drop next xs)) → Stepped t f at xs next a
-stepped t f at xs next a e =
-    let m = mapped_some (record_of at) (one t (drop at f) (drop next xs)) a e in
-    let w = one_within t (drop at f) (drop next xs) m.0 m.1 in
+pub stepped : {X : Type 0} (t : ArgumentType) (at : ℕ) (bs : List ℕ) (xs : List X) (a : Argument X) → Some a ≡ option_map (record_of at) (one t bs xs) → Stepped t at bs xs a
+stepped t at bs xs a e =
+    let m = mapped_some (record_of at) (one t bs xs) a e in
+    let w = one_within t bs xs m.0 m.1 in
     record {
       value = m.0;
       read = m.1;
       is = m.2;
       size = ap field_length m.2 ∙ record_length at m.0;
-      inside = simp length-drop at w.0;
+      inside = w.0;
       carries = ap (λ b. length (carried_by b)) m.2 ∙ ap length (record_carries at m.0);
-      there = simp length-drop at w.1;
+      there = w.1;
     }
 
--- a turn of a loop over the types: n and k are what the code takes for the argument's bytes and descriptors
-pub turn : {X : Type 0} (ts : List ArgumentType) (d : ArgumentType) (f : List ℕ) (at : ℕ) (xs : List X) (next : ℕ) (a : Argument X) (i n k : ℕ)
-    → (s : Stepped (get_or ts i d) f at xs next a) → i < length ts → at ≤ length f → length f < 2 ^ 64 → n ≡ min (field_length a) (2 ^ 64 - 1) → k ≡ length (carried_by a)
-    → (n ≡ length (field s.value)) × (at + n ≤ length f)
-    × (values (drop i ts) (drop at f) (drop next xs) ≡ before s.value (values (drop (i + 1) ts) (drop (at + n) f) (drop (next + k) xs)))
-turn ts d f at xs next a i n k s h l m e q =
-    let z = s.size in
-    let w = s.inside in
-    let en : n ≡ length (field s.value) = omega arith in
-    let ek : k ≡ length (carried s.value) = q ∙ s.carries in (
-      en,
-      omega arith,
-      ap (λ us. values us (drop at f) (drop next xs)) (drop_more ts i d h)
-          ∙ step (get_or ts i d) (drop (i + 1) ts) f at xs next s.value s.read
-          ∙ ap (λ (u : ℕ). before s.value (values (drop (i + 1) ts) (drop (at + u) f) (drop (next + length (carried s.value)) xs))) (sym en)
-          ∙ ap (λ (u : ℕ). before s.value (values (drop (i + 1) ts) (drop (at + n) f) (drop (next + u) xs))) (sym ek),
-    )
+-- what the first value of several is, and the others
+pub then_got : {X : Type 0} (o : Option (Value X)) (next : Value X → Option (List (Value X))) (vs : List (Value X)) → then o next ≡ Some vs → (v : Value X) × (o ≡ Some v) × (next v ≡ Some vs)
+then_got None next vs e = absurd (let z : ◌≡◌ {A = ℕ} 0 1 = cc in omega arith)
+then_got (Some v) next vs e = (v, refl, e)
 
-pub turn_stuck : {X : Type 0} (ts : List ArgumentType) (d : ArgumentType) (f : List ℕ) (at : ℕ) (xs : List X) (next i : ℕ) → i < length ts
-    → None ≡ option_map (record_of at) (one (get_or ts i d) (drop at f) (drop next xs)) → values (drop i ts) (drop at f) (drop next xs) ≡ None
-turn_stuck ts d f at xs next i h e =
-    ap (λ us. values us (drop at f) (drop next xs)) (drop_more ts i d h) ∙ stuck (get_or ts i d) (drop (i + 1) ts) (drop at f) (drop next xs) (mapped_none (record_of at) (one (get_or ts i d) (drop at f) (drop next xs)) e)
+pub before_got : {X : Type 0} (v : Value X) (o : Option (List (Value X))) (vs : List (Value X)) → before v o ≡ Some vs → (us : List (Value X)) × (o ≡ Some us) × (vs ≡ v ∷ us)
+before_got v None vs e = absurd (let z : ◌≡◌ {A = ℕ} 0 1 = cc in omega arith)
+before_got v (Some us) vs e = (us, refl, cc)
 
-pub fd_few : (t : ArgumentType) → fd_of t ≤ 1
-fd_few type.Int = omega arith
-fd_few type.Uint = omega arith
-fd_few type.Fixed = omega arith
-fd_few (type.Str maybe) = omega arith
-fd_few (type.Object maybe) = omega arith
-fd_few type.NewId = omega arith
-fd_few type.Array = omega arith
-fd_few type.Fd = omega arith
+pub length_records : {X : Type 0} (at : ℕ) (vs : List (Value X)) → length (records_of at vs) ≡ length vs
+length_records at [] = refl
+length_records at (v ∷ vs) = ap suc (length_records (at + length (field v)) vs)

@@ -1,5 +1,5 @@
 -- What `write_answer` is, check by check, and what the code knows after each.
-use Rattle.std.proofs.Common.{◌≡◌, ℕ, ◌+◌, ◌-◌, ◌*◌, ◌<◌, ◌≤◌, Bool, true, false, cond, ◌||◌, ltb, ◌⊎◌, List, ◌++◌, length, Some, None, Ok, Err, Option, Result, sym, refl, ap, ◌∙◌, inl, inr, ⊎_elim, arith}
+use Rattle.std.proofs.Common.{◌≡◌, ℕ, ◌+◌, ◌-◌, ◌*◌, ◌<◌, ◌≤◌, Bool, true, false, cond, ◌||◌, ltb, ◌⊎◌, List, ◌++◌, length, take, drop, Some, None, Ok, Err, Option, Result, sym, refl, ap, ◌∙◌, inl, inr, ⊎_elim, arith}
 use borrow.Rule.Slice.PartMut.{put_mid}
 use Rattle.std.proofs.lemmas.Bool.{cond-true, cond-false, lt-ltb, le-ltb, ltb-false, or_left, or_right, or_from, or_parts, cases_Bool}
 use Rattle.protocol.specs.declared.fd.RawFd.{RawFd}
@@ -11,7 +11,7 @@ use Rattle.wire.specs.Frame.{known, word, fields, frame, overlay, size_of}
 use Rattle.wire.specs.Place.{lay}
 use Rattle.wire.specs.Write.{dup_failure, largest, unless_failed, write_answer}
 use Rattle.wire.proofs.Outcomes.{past, past_not}
-use Rattle.wire.proofs.Laying.{lay_append, lay_known, length_lay}
+use Rattle.wire.proofs.Laying.{lay_append, length_lay, length_overlay, part_laid}
 
 pub measured : (g : Bool) (s n : ℕ) → Ok n ≡ cond g (cond (ltb largest s) (Err Oversize) (Ok s)) (Err BadText) → (g ≡ true) × (s ≤ largest) × (n ≡ s)
 measured true s n e = elim (cases_Bool (ltb largest s)) [
@@ -48,13 +48,17 @@ module _ (g : Bool) (m : Message RawFd) (payload places : ℕ) (fs : Files) (ns 
       ∙ cond-false _ _ _ (or_from _ _ (le-ltb _ _ s) (le-ltb _ _ l))
 
 -- the header's two words, and the arguments behind them
-pub frame_laid : (m : Message RawFd) (n : ℕ) (p q r s : List ℕ) → 8 ≤ length p → n ≡ size_of m → q ≡ put_mid 0 4 p (word m.sender) → r ≡ put_mid 4 4 q (word (n * 65536 + m.opcode)) → s ≡ lay 8 (fields m.args) r → s ≡ overlay (frame m) p
-frame_laid m n p q r s h e a b c =
-    let a' : q ≡ lay 0 (known (word m.sender)) p = a ∙ sym (lay_known 0 (word m.sender) p (omega arith)) in
-    let l : length q ≡ length p = ap length a' ∙ length_lay 0 (known (word m.sender)) p in
-    let b' : r ≡ lay 4 (known (word (n * 65536 + m.opcode))) q = b ∙ sym (lay_known 4 (word (n * 65536 + m.opcode)) q (omega arith)) in
-    c
-    ∙ ap (lay 8 (fields m.args)) (b' ∙ ap (λ k. lay 4 (known (word (k * 65536 + m.opcode))) q) e ∙ ap (lay 4 (known (word (size_of m * 65536 + m.opcode)))) a')
+pub frame_laid : (m : Message RawFd) (w i j : ℕ) (p q r s : List ℕ) → 8 ≤ length p → w ≡ size_of m * 65536 + m.opcode
+    → q ≡ overlay (known (word m.sender)) p
+    → i ≡ length q - 4 → r ≡ overlay (known (word w)) (take i (drop 4 q))
+    → j ≡ length (put_mid 4 i q r) - 8 → s ≡ overlay (fields m.args) (take j (drop 8 (put_mid 4 i q r)))
+    → put_mid 8 j (put_mid 4 i q r) s ≡ overlay (frame m) p
+frame_laid m w i j p q r s h e a ei b ej c =
+    let l : length q ≡ length p = ap length a ∙ length_overlay (known (word m.sender)) p in
+    let b' : put_mid 4 i q r ≡ lay 4 (known (word w)) q = part_laid 4 i (known (word w)) q r (omega arith) ei b in
+    let k : length (put_mid 4 i q r) ≡ length q = ap length b' ∙ length_lay 4 (known (word w)) q in
+    part_laid 8 j (fields m.args) (put_mid 4 i q r) s (omega arith) ej c
+    ∙ ap (lay 8 (fields m.args)) (b' ∙ ap (λ n. lay 4 (known (word n)) q) e ∙ ap (lay 4 (known (word (size_of m * 65536 + m.opcode)))) a)
     ∙ sym (lay_append 4 (known (word (size_of m * 65536 + m.opcode))) (fields m.args) (lay 0 (known (word m.sender)) p))
     ∙ sym (lay_append 0 (known (word m.sender)) (known (word (size_of m * 65536 + m.opcode)) ++ fields m.args) p)
 

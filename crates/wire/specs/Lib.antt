@@ -7,5 +7,6 @@ pub mod Answers
 pub mod Laws
 pub mod Place
 pub mod ReadBack
+pub mod Reader
 pub mod Worked
 pub mod Write

@@ -1,5 +1,5 @@
 -- Argument records: a string or an array is a place and a length in the bytes that go with the record.
-use Rattle.std.specs.Prelude.{ℕ, ◌+◌, Bool, true, cond, List, [], ◌∷◌, ◌++◌, length, take, drop, Some, None, Option, nat_le}
+use Rattle.std.specs.Prelude.{ℕ, ◌+◌, Bool, true, cond, List, [], ◌∷◌, ◌++◌, length, take, drop, Some, None, Option, nat_le, slice_get}
 use Rattle.protocol.specs.declared.argument.Text.{Text}
 use Rattle.protocol.specs.declared.argument.Argument.{Argument}
 use Rattle.protocol.specs.declared.argument.Argument.TheVariants as arg
@@ -91,6 +91,9 @@ carried_by (arg.Object n) = []
 carried_by (arg.NewId n) = []
 carried_by (arg.Array t) = []
 carried_by (arg.Fd x) = x ∷ []
+
+abbrev pub number_of : {X : Type 0} → Argument X → Option X
+number_of a = slice_get (carried_by a) 0
 
 -- the descriptors of a list of records, in order
 abbrev pub numbers_in : {X : Type 0} → List (Argument X) → List X

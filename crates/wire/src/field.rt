@@ -1,15 +1,22 @@
-ghost use Rattle.std.specs.Prelude.{◌≡◌, ◌+◌, ◌-◌, ◌^◌, min, length};
-ghost use Rattle.wire.specs.Records.{block_length, carried_by, field_length};
-ghost use Rattle.std.specs.Option.{option_to_list};
+ghost use Rattle.std.specs.Prelude.{◌≡◌, ◌+◌, ◌-◌, ◌^◌, min};
+ghost use Rattle.wire.specs.Frame.{padding};
+ghost use Rattle.wire.specs.Read.{no_zero};
+ghost use Rattle.wire.specs.Records.{block_length, field_length, number_of};
 
 use protocol::Argument;
 
-// Four bytes of length, then so many bytes and their padding to a multiple of 4.
+// How many bytes n lacks to a multiple of 4.
+pub fn padding_len(n: usize) -> usize
+    ensures { result ≡ padding n }
+{
+    (4 - n % 4) % 4
+}
+
+// Four bytes of length, then so many bytes and their padding.
 pub(crate) fn block_len(n: usize) -> usize
     ensures { result ≡ min (block_length n) (2 ^ 64 - 1) }
 {
-    let missing = (4 - n % 4) % 4;
-    n.saturating_add(4 + missing)
+    n.saturating_add(4 + padding_len(n))
 }
 
 // The bytes that an argument takes in a frame.
@@ -24,22 +31,18 @@ pub(crate) fn field_len<Fd>(argument: &Argument<Fd>) -> usize
     }
 }
 
-// How many descriptors an argument carries.
-pub(crate) fn fd_len<Fd>(argument: &Argument<Fd>) -> usize
-    ensures { result ≡ length (carried_by argument.now) }
-{
-    match argument {
-        Argument::Fd(_) => 1,
-        _ => 0,
-    }
-}
-
 // The descriptor of an argument, if it is one.
 pub(crate) fn fd_of<Fd: Copy>(argument: &Argument<Fd>) -> Option<Fd>
-    ensures { option_to_list result ≡ carried_by argument.now }
+    ensures { result ≡ number_of argument.now }
 {
     match argument {
         Argument::Fd(fd) => Some(*fd),
         _ => None,
     }
+}
+
+pub(crate) fn no_zero(bytes: &[u8]) -> bool
+    ensures { result ≡ no_zero bytes.now }
+{
+    !bytes.contains(&0)
 }

@@ -22,12 +22,7 @@ pub enum ArgumentView<'f> {
 pub(crate) fn part(bytes: &[u8], text: Text) -> Option<&[u8]>
     ensures { option_map (λ x. x.now) result ≡ part_of bytes.now text }
 {
-    let start = text.place;
-    let end = start.checked_add(text.len)?;
-    if end > bytes.len() {
-        return None;
-    }
-    Some(&bytes[start..end])
+    bytes.get(text.place..text.place.checked_add(text.len)?)
 }
 
 impl<'f> ArgumentView<'f> {

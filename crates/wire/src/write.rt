@@ -1,17 +1,15 @@
-ghost use Rattle.std.specs.Prelude.{◌≡◌, ◌+◌, ◌-◌, ◌^◌, ◌<◌, ◌≤◌, true, [], ◌∷◌, ◌++◌, map, length, if◌then◌else◌, None, Ok, Err, nat_lt};
-ghost use borrow.Rule.Slice.PartMut.{put_mid};
+ghost use Rattle.std.specs.Prelude.{◌≡◌, ◌+◌, ◌-◌, ◌^◌, ◌<◌, ◌≤◌, true, ◌++◌, length, min, if◌then◌else◌, None, Ok, Err, IfOk, nat_lt};
+ghost use Rattle.std.specs.Result.{result_map_both};
 ghost use Rattle.protocol.specs.declared.refusal.Refusal.TheVariants.{BadText, Oversize};
 ghost use Rattle.book.specs.Files.{numbers, opened};
 ghost use Rattle.book.specs.View.{files};
-ghost use Rattle.wire.specs.Frame.{block, field, fields, frame, overlay, size_of, word};
+ghost use Rattle.wire.specs.Frame.{block, field, fields, frame, known, overlay, size_of, word};
 ghost use Rattle.wire.specs.Laws.{AllCarry, Carries};
-ghost use Rattle.wire.specs.Place.{lay};
 ghost use Rattle.wire.specs.ReadBack.{ReadBack};
 ghost use Rattle.wire.specs.Records.{block_length, field_length, fields_length, numbers_in, value_of};
-ghost use Rattle.wire.specs.Write.{After, Placed, Stored, dup_failure, good_text, good_texts, largest, message_of, unless_failed, write_answer};
+ghost use Rattle.wire.specs.Write.{After, Placed, dup_failure, good_text, good_texts, largest, message_of, unless_failed, write_answer};
 
-use crate::field::{fd_of, field_len};
-use crate::parse::no_zero;
+use crate::field::{fd_of, field_len, no_zero};
 use crate::view::part;
 use book::Book;
 use protocol::{Argument, Message, OwnedFd, RawFd, Refusal};
@@ -28,30 +26,47 @@ fn good_text(argument: &Argument<RawFd>, text: &[u8]) -> bool
     ensures { result ≡ good_text text.now argument.now }
 {
     match argument {
-        Argument::Str(t) => match part(text, *t) {
-            Some(bytes) => no_zero(bytes),
-            None => false,
-        },
+        Argument::Str(t) => part(text, *t).is_some_and(no_zero),
         Argument::Array(t) => part(text, *t).is_some(),
         _ => true,
     }
 }
 
-// The size of a message's frame.
-fn measure(args: &[Argument<RawFd>], text: &[u8]) -> Result<usize, Refusal>
-    ensures { result ≡ (if good_texts text.now args.now then (if nat_lt largest (8 + length (fields (map (value_of text.now) args.now))) then Err Oversize else Ok (8 + length (fields (map (value_of text.now) args.now)))) else Err BadText) }
+fn good_texts(args: &[Argument<RawFd>], text: &[u8]) -> bool
+    ensures { result ≡ good_texts text.now args.now }
 {
-    let mut size: usize = 8;
-    for argument in args {
-        if !good_text(argument, text) {
-            return Err(Refusal::BadText);
-        }
-        size = size.saturating_add(field_len(argument));
+    args.iter().all(|argument| good_text(argument, text))
+}
+
+// The bytes that the arguments take in a frame.
+fn fields_len(args: &[Argument<RawFd>]) -> usize
+    ensures { result ≡ min (fields_length args.now) (2 ^ 64 - 1) }
+{
+    args.iter().map(field_len).fold(0, usize::saturating_add)
+}
+
+// A message whose texts are good, and the size of its frame.
+#[derive(Clone, Copy)]
+struct Measured<'m> {
+    msg: Message<'m, RawFd>,
+    size: usize,
+    ghost good: { good_texts msg.text.now msg.args.now ≡ true },
+    ghost sized: { size ≡ size_of (message_of msg) },
+    ghost small: { size ≤ largest },
+}
+
+fn measure<'m>(msg: &Message<'m, RawFd>) -> Result<Measured<'m>, Refusal>
+    ensures size { result_map_both (λ m. m.size) (λ why. why) result ≡ (if good_texts msg.now.text.now msg.now.args.now then (if nat_lt largest (size_of (message_of msg.now)) then Err Oversize else Ok (size_of (message_of msg.now))) else Err BadText) }
+    ensures msg { IfOk result (λ m. m.msg ≡ msg.now) }
+{
+    if !good_texts(msg.args, msg.text) {
+        return Err(Refusal::BadText);
     }
+    let size = fields_len(msg.args).saturating_add(8);
     if size > LARGEST {
         return Err(Refusal::Oversize);
     }
-    Ok(size)
+    Ok(Measured { msg: *msg, size })
 }
 
 // How many descriptors a message has, if the book can duplicate them all.
@@ -59,108 +74,86 @@ fn check_duplicates(args: &[Argument<RawFd>], book: &Book) -> Result<usize, Refu
     ensures { result ≡ unless_failed (dup_failure (files book.now) (numbers - opened (files book.now)) (numbers_in args.now)) (Ok (length (numbers_in args.now))) }
 {
     let free = book.free_numbers();
-    let mut count = 0;
-    for argument in args {
-        if let Some(fd) = fd_of(argument) {
-            if book.file(fd).is_err() {
-                return Err(Refusal::DupFailed(EBADF));
-            }
-            if count >= free {
-                return Err(Refusal::DupFailed(EMFILE));
-            }
-            count += 1;
+    let mut left = free;
+    for fd in args.iter().filter_map(fd_of) {
+        if book.file(fd).is_err() {
+            return Err(Refusal::DupFailed(EBADF));
         }
+        if left == 0 {
+            return Err(Refusal::DupFailed(EMFILE));
+        }
+        left -= 1;
     }
-    Ok(count)
+    Ok(free - left)
 }
 
-fn put_bytes(payload: &mut [u8], at: usize, bytes: &[u8])
-    requires { at + length bytes.now ≤ length payload.old }
-    ensures { payload.new ≡ put_mid at (length bytes.now) payload.old bytes.now }
+fn put_word(free: &mut [u8], n: u32)
+    requires { 4 ≤ length free.old }
+    ensures { free.new ≡ overlay (known (word n)) free.old }
 {
-    let end = at + bytes.len();
-    payload[at..end].copy_from_slice(bytes);
+    free[..4].copy_from_slice(&n.to_le_bytes());
 }
 
-fn put_word(payload: &mut [u8], at: usize, n: u32)
-    requires { at + 4 ≤ length payload.old }
-    ensures { payload.new ≡ put_mid at 4 payload.old (word n) }
+// The length of some bytes and their end, and then both. A string ends in a 0.
+fn put_block(free: &mut [u8], bytes: &[u8], end: &[u8])
+    requires room { block_length (length (bytes.now ++ end.now)) ≤ length free.old }
+    requires small { length (bytes.now ++ end.now) ≤ largest }
+    ensures { free.new ≡ overlay (block (bytes.now ++ end.now)) free.old }
 {
-    put_bytes(payload, at, &n.to_le_bytes());
+    let start = 4 + bytes.len();
+    let len = bytes.len() + end.len();
+    put_word(free, len as u32);
+    free[4..start].copy_from_slice(bytes);
+    free[start..4 + len].copy_from_slice(end);
 }
 
-// A length, and bytes behind it; a string's length counts its final 0.
-fn put_string(payload: &mut [u8], at: usize, bytes: &[u8])
-    requires room { at + block_length (length bytes.now + 1) ≤ length payload.old }
-    requires small { length bytes.now < largest }
-    ensures { payload.new ≡ lay at (block (bytes.now ++ 0 ∷ [])) payload.old }
-{
-    let len = bytes.len();
-    put_word(payload, at, (len + 1) as u32);
-    put_bytes(payload, at + 4, bytes);
-    payload[at + 4 + len] = 0;
-}
-
-fn put_array(payload: &mut [u8], at: usize, bytes: &[u8])
-    requires room { at + block_length (length bytes.now) ≤ length payload.old }
-    requires small { length bytes.now < largest }
-    ensures { payload.new ≡ lay at (block bytes.now) payload.old }
-{
-    put_word(payload, at, bytes.len() as u32);
-    put_bytes(payload, at + 4, bytes);
-}
-
-// The field of an argument, from a place of the payload on; padding stays as it was.
-fn put_argument(payload: &mut [u8], at: usize, argument: &Argument<RawFd>, text: &[u8])
+// The field of an argument, in front; padding stays as it was.
+fn put_argument(free: &mut [u8], argument: &Argument<RawFd>, text: &[u8])
     requires good { good_text text.now argument.now ≡ true }
     requires small { field_length argument.now ≤ largest }
-    requires room { at + field_length argument.now ≤ length payload.old }
-    ensures laid { payload.new ≡ lay at (field (value_of text.now argument.now)) payload.old }
+    requires room { field_length argument.now ≤ length free.old }
+    ensures laid { free.new ≡ overlay (field (value_of text.now argument.now)) free.old }
     ensures carries { Carries (value_of text.now argument.now) }
 {
     match argument {
-        Argument::Int(n) | Argument::Fixed(n) => put_word(payload, at, n.cast_unsigned()),
-        Argument::Uint(n) | Argument::Object(n) | Argument::NewId(n) => put_word(payload, at, *n),
-        Argument::NullStr => put_word(payload, at, 0),
-        Argument::Str(t) => {
-            let start = t.place;
-            let end = start + t.len;
-            put_string(payload, at, &text[start..end]);
-        }
-        Argument::Array(t) => {
-            let start = t.place;
-            let end = start + t.len;
-            put_array(payload, at, &text[start..end]);
-        }
+        Argument::Int(n) | Argument::Fixed(n) => put_word(free, n.cast_unsigned()),
+        Argument::Uint(n) | Argument::Object(n) | Argument::NewId(n) => put_word(free, *n),
+        Argument::NullStr => put_word(free, 0),
+        Argument::Str(t) => put_block(free, &text[t.place..t.place + t.len], &[0]),
+        Argument::Array(t) => put_block(free, &text[t.place..t.place + t.len], &[]),
         Argument::Fd(_) => {}
     }
 }
 
-fn put_arguments(payload: &mut [u8], args: &[Argument<RawFd>], text: &[u8])
-    requires good { good_texts text.now args.now ≡ true }
-    requires small { 8 + fields_length args.now ≤ largest }
-    requires room { 8 + fields_length args.now ≤ length payload.old }
-    ensures laid { payload.new ≡ lay 8 (fields (map (value_of text.now) args.now)) payload.old }
-    ensures carries { AllCarry (map (value_of text.now) args.now) }
-{
-    let mut at = 8;
-    for argument in args {
-        put_argument(payload, at, argument, text);
-        at += field_len(argument);
+impl Measured<'_> {
+    // The frame, first in the payload.
+    fn put(&self, payload: &mut [u8])
+        requires { self.now.size ≤ length payload.old }
+        ensures laid { payload.new ≡ overlay (frame (message_of self.now.msg)) payload.old }
+        ensures sender { self.now.msg.sender < 2 ^ 32 }
+        ensures opcode { self.now.msg.opcode < 2 ^ 16 }
+        ensures args { AllCarry (message_of self.now.msg).args }
+    {
+        let Message { sender, opcode, .. } = self.msg;
+        put_word(payload, sender);
+        put_word(
+            &mut payload[4..],
+            (self.size as u32) * 65536 + u32::from(opcode),
+        );
+        self.put_arguments(&mut payload[8..]);
     }
-}
 
-fn put_frame(payload: &mut [u8], msg: &Message<RawFd>, size: usize)
-    requires good { good_texts msg.now.text.now msg.now.args.now ≡ true }
-    requires sized { size ≡ size_of (message_of msg.now) }
-    requires small { size ≤ largest }
-    requires room { size ≤ length payload.old }
-    ensures laid { payload.new ≡ overlay (frame (message_of msg.now)) payload.old }
-    ensures carries { (msg.now.sender < 2 ^ 32) × ((msg.now.opcode < 2 ^ 16) × (AllCarry (message_of msg.now).args)) }
-{
-    put_word(payload, 0, msg.sender);
-    put_word(payload, 4, (size as u32) * 65536 + msg.opcode as u32);
-    put_arguments(payload, msg.args, msg.text);
+    fn put_arguments(&self, free: &mut [u8])
+        requires { self.now.size ≤ length free.old + 8 }
+        ensures laid { free.new ≡ overlay (fields (message_of self.now.msg).args) free.old }
+        ensures carries { AllCarry (message_of self.now.msg).args }
+    {
+        let mut at = 0;
+        for argument in self.msg.args {
+            put_argument(&mut free[at..], argument, self.msg.text);
+            at += field_len(argument);
+        }
+    }
 }
 
 // The duplicates of the message's descriptors, in order, first among the places.
@@ -169,51 +162,27 @@ fn put_duplicates(args: &[Argument<RawFd>], places: &mut [OwnedFd], book: &mut B
     requires room { length (numbers_in args.now) ≤ length places.old }
     ensures { Placed (numbers_in args.now) places.old (files book.old) places.new (files book.new) }
 {
-    let mut count = 0;
-    for argument in args {
-        if let Some(fd) = fd_of(argument) {
-            match book.duplicate(fd) {
-                Ok(new) => {
-                    places[count] = new;
-                    count += 1;
-                }
-                Err(_) => unreachable(),
-            }
-        }
+    for (at, fd) in args.iter().filter_map(fd_of).enumerate() {
+        places[at] = book.duplicate(fd).unwrap();
     }
 }
 
-// The checks of a message, in their order: the size of its frame where it passes them all.
-fn check_message(
-    msg: &Message<RawFd>,
+// The checks of a message, in their order.
+fn check_message<'m>(
+    msg: &Message<'m, RawFd>,
     payload_len: usize,
     places_len: usize,
     book: &Book,
-) -> Result<usize, Refusal>
-    ensures { result ≡ write_answer (good_texts msg.now.text.now msg.now.args.now) (message_of msg.now) payload_len places_len (files book.now) }
+) -> Result<Measured<'m>, Refusal>
+    ensures size { result_map_both (λ m. m.size) (λ why. why) result ≡ write_answer (good_texts msg.now.text.now msg.now.args.now) (message_of msg.now) payload_len places_len (files book.now) }
+    ensures msg { IfOk result (λ m. m.msg ≡ msg.now) }
 {
-    let size = measure(msg.args, msg.text)?;
+    let measured = measure(msg)?;
     let count = check_duplicates(msg.args, book)?;
-    if payload_len < size || places_len < count {
+    if payload_len < measured.size || places_len < count {
         return Err(Refusal::Short);
     }
-    Ok(size)
-}
-
-// The frame and the duplicates of a message that has passed every check.
-fn put_message(
-    msg: &Message<RawFd>,
-    size: usize,
-    payload: &mut [u8],
-    places: &mut [OwnedFd],
-    book: &mut Book,
-)
-    requires { write_answer (good_texts msg.now.text.now msg.now.args.now) (message_of msg.now) (length payload.old) (length places.old) (files book.old) ≡ Ok size }
-    ensures stored { Stored (message_of msg.now) payload.old places.old (files book.old) payload.new places.new (files book.new) }
-    ensures readback { ReadBack (Ok size) msg.now.args.now (message_of msg.now) payload.new places.new (files book.old) (files book.new) }
-{
-    put_frame(payload, msg, size);
-    put_duplicates(msg.args, places, book);
+    Ok(measured)
 }
 
 // Writes the frame of a message first into the payload, and the duplicates of its descriptors first into the places.
@@ -227,11 +196,8 @@ pub fn write_to_buffers(
     ensures after { After result (message_of msg.now) payload.old places.old (files book.old) payload.new places.new (files book.new) }
     ensures readback { ReadBack result msg.now.args.now (message_of msg.now) payload.new places.new (files book.old) (files book.new) }
 {
-    match check_message(msg, payload.len(), places.len(), book) {
-        Ok(size) => {
-            put_message(msg, size, payload, places, book);
-            Ok(size)
-        }
-        Err(why) => Err(why),
-    }
+    let measured = check_message(msg, payload.len(), places.len(), book)?;
+    measured.put(payload);
+    put_duplicates(msg.args, places, book);
+    Ok(measured.size)
 }

@@ -1,17 +1,29 @@
-use Rattle.std.proofs.Common.{◌≡◌, ◌+◌, get_or, drop, ap, arith}
-use Rattle.std.proofs.lemmas.List.{drop_more, drop_all}
-use Rattle.protocol.specs.declared.argument.ArgumentType.TheVariants.{Int}
+use Rattle.std.proofs.Common.{◌≡◌, ℕ, ◌+◌, Bool, true, false, cond, refl, rules, arith}
+use Rattle.std.proofs.lemmas.List.Recursion.{is_count_by}
+use Rattle.protocol.specs.declared.argument.ArgumentType.{ArgumentType}
+use Rattle.protocol.specs.declared.argument.ArgumentType.TheVariants as type
 use Rattle.wire.specs.Read.{fd_of, fd_count}
-use Rattle.wire.proofs.Walk.{fd_few}
 use Rattle.wire.proofs.parse.fd_count.Goals as goal
 
-pub loop-kind-preserved : goal.loop-kind-preserved
-loop-kind-preserved c =
-    let t = get_or c.args.signature.now c.loop-kind.kind-index Int in
-    let e : fd_count (drop c.loop-kind.kind-index c.args.signature.now) ≡ fd_of t + fd_count (drop (c.loop-kind.kind-index + 1) c.args.signature.now) = ap fd_count (drop_more c.args.signature.now c.loop-kind.kind-index Int (omega arith)) in
-    (omega (arith, fd_few t, c.fds_of-count.ensures), omega (arith, c.fds_of-count.ensures))
+abbrev is_fd : ArgumentType → Bool
+is_fd type.Int = false
+is_fd type.Uint = false
+is_fd type.Fixed = false
+is_fd (type.Str maybe) = false
+is_fd (type.Object maybe) = false
+is_fd type.NewId = false
+is_fd type.Array = false
+is_fd type.Fd = true
+
+counted : (t : ArgumentType) (n : ℕ) → fd_of t + n ≡ cond (is_fd t) (1 + n) n
+counted type.Int n = omega arith
+counted type.Uint n = omega arith
+counted type.Fixed n = omega arith
+counted (type.Str maybe) n = omega arith
+counted (type.Object maybe) n = omega arith
+counted type.NewId n = omega arith
+counted type.Array n = omega arith
+counted type.Fd n = refl
 
 pub returns : goal.returns
-returns c =
-    let e : fd_count (drop c.loop-kind.kind-index c.args.signature.now) ≡ 0 = ap fd_count (drop_all c.loop-kind.kind-index c.args.signature.now (omega arith)) in
-    omega arith
+returns c = search (rules, is_count_by fd_count is_fd refl (λ t ts. counted t (fd_count ts)))

@@ -1,41 +1,32 @@
-use Rattle.std.proofs.Common.{◌≡◌, ℕ, ◌-◌, ◌≤◌, true, length, take, drop, is_some, sym, refl, ap, ◌∙◌, subst, arith, rules}
-use Rattle.std.proofs.lemmas.List.{length-take, take_rest}
+use Rattle.std.proofs.Common.{◌≡◌, ◌+◌, ◌++◌, length, take, drop, ℕ, refl, ap, ◌∙◌, arith}
+use Rattle.std.proofs.lemmas.List.{length-take}
+use Rattle.protocol.specs.declared.argument.Argument.{Argument}
+use Rattle.protocol.specs.declared.fd.OwnedFd.{OwnedFd}
 use Rattle.wire.specs.Read.{size_at, values}
 use Rattle.wire.specs.Answers.{Filled}
+use Rattle.wire.specs.Reader.{left}
+use Rattle.wire.proofs.Filling.{filled}
 use Rattle.wire.proofs.Parsing.{accepted, size_is}
 use Rattle.wire.proofs.Showing.{shows}
 use Rattle.wire.proofs.parse.take_message.Goals as goal
+use Rattle.wire.proofs.parse.take_message.Goals.{After-fill}
 
-same : (n m : ℕ) → n ≡ m → n - 0 ≡ m
-same n m e = (let z : n - 0 ≡ n = omega arith in z) ∙ e
+-- what the reader had left is the frame behind its header, so the records are filled with its arguments
+taken : (c : After-fill) → Filled (values c.args.signature.now (drop 8 (take (size_at c.args.raw.now) c.args.raw.now)) c.args.fds.now) c.args.cursor.now c.args.records.now (c.args.cursor.now + c.fill.result) (c.fill.new.records ++ drop (length c.args.signature.now) c.args.records.now)
+taken c =
+    let size : c.from.result ≡ size_at c.args.raw.now = c.from.ensures ∙ size_is c.args.header c.args.raw.now c.requires.passed.is in
+    let n = c.new-reader.ensures in
+    let f = c.split_at.ensures.front in
+    let o : left c.new-reader.result ≡ values c.args.signature.now (drop 8 (take (size_at c.args.raw.now) c.args.raw.now)) c.args.fds.now = cc in
+    filled _ _ _ _ _ _ (rw (o, n.at) at c.fill.ensures.gives) (omega (arith, c.fill.auto.records, length-take {A = Argument OwnedFd}))
 
-pub slice_bounds-fill_arguments-end : goal.slice_bounds-fill_arguments-end
-slice_bounds-fill_arguments-end c =
-    let s = size_is c.args.header c.args.raw.now c.requires.is in
-    let w : c.args.header.size ≤ length c.args.raw.now = (let l = c.requires.whole in omega arith) in
-    search rules
+pub overflow_add-cursor : goal.overflow_add-cursor
+overflow_add-cursor c = let f = c.new-reader.ensures.fds in omega (arith, c.fill.ensures.few, c.requires.few, ap length f)
 
-pub fill_arguments-requires : goal.fill_arguments-requires
-fill_arguments-requires c =
-    let s = size_is c.args.header c.args.raw.now c.requires.is in
-    let l = c.requires.long in
-    let w = c.requires.whole in
-    record {
-      long = simp length-take (omega arith);
-      room = c.requires.room_enough;
-      fit = subst (λ (n : ℕ). is_some (values c.args.signature.now (drop 8 (take n c.args.raw.now)) (drop c.args.cursor.now c.args.fds.now)) ≡ true) (sym (same _ _ s)) c.requires.fit;
-    }
+pub returns-clause-answer : goal.returns-clause-answer
+returns-clause-answer c =
+    let tail : c.split_at.result.1.now ≡ drop (size_at c.args.raw.now) c.args.raw.now = c.split_at.ensures.back ∙ ap (λ (n : ℕ). drop n c.args.raw.now) (c.from.ensures ∙ size_is c.args.header c.args.raw.now c.requires.passed.is) in
+    accepted _ c.args.raw.now c.args.fds.now _ _ _ _ _ _ c.requires.passed.answer (taken (goal.at.returns-clause-answer c).After-fill) c.requires.passed.is tail
 
-pub returns : goal.returns
-returns c =
-    let s = size_is c.args.header c.args.raw.now c.requires.is in
-    let filled = subst (λ (n : ℕ). Filled (values c.args.signature.now (drop 8 (take n c.args.raw.now)) (drop c.args.cursor.now c.args.fds.now)) c.args.cursor.now c.args.records.now c.fill_arguments.new.cursor c.fill_arguments.new.records)
-    (same _ _ s) c.fill_arguments.ensures in
-    record {
-      answer =
-          accepted (values c.args.signature.now (drop 8 (take (size_at c.args.raw.now) c.args.raw.now)) (drop c.args.cursor.now c.args.fds.now)) c.args.raw.now (drop c.args.cursor.now c.args.fds.now) _ c.args.cursor.now _ c.args.records.now _ _
-          c.requires.answer filled c.requires.is (take_rest c.args.raw.now c.args.header.size ∙ ap (λ (n : ℕ). drop n c.args.raw.now) s);
-      shows =
-          shows c.args.signature.now (values c.args.signature.now (drop 8 (take (size_at c.args.raw.now) c.args.raw.now)) (drop c.args.cursor.now c.args.fds.now)) c.args.raw.now (drop c.args.cursor.now c.args.fds.now) _ c.args.cursor.now _ c.args.records.now _
-          c.requires.answer refl filled;
-    }
+pub returns-clause-shows : goal.returns-clause-shows
+returns-clause-shows c = shows _ _ _ _ _ _ _ _ _ c.requires.passed.answer refl (taken (goal.at.returns-clause-shows c).After-fill)

@@ -1,0 +1,30 @@
+-- What a reader has left to read, and what it gives.
+use Rattle.std.specs.Prelude.{◌≡◌, ℕ, ◌+◌, ◌⊎◌, List, [], length, Some, None, Option}
+use Rattle.protocol.specs.declared.argument.Argument.{Argument}
+use Rattle.protocol.specs.declared.fd.OwnedFd.{OwnedFd}
+use Rattle.wire.specs.declared.reader.Reader.{Reader}
+use Rattle.wire.specs.Values.{Value, carried, descriptors}
+use Rattle.wire.specs.Frame.{field}
+use Rattle.wire.specs.Read.{before, values}
+use Rattle.wire.specs.Records.{record_of, records_of}
+
+-- the arguments that are left
+abbrev pub left : Reader → Option (List (Value OwnedFd))
+left r = values r.kinds.now r.bytes.now r.fds.now
+
+-- a reader that has moved on behind a value
+pub record Behind (v : Value OwnedFd) (r r' : Reader) : Type 0 where
+  pub kinds : length r.kinds.now ≡ length r'.kinds.now + 1
+  pub at : r'.at ≡ r.at + length (field v)
+  pub fds : length r.fds.now ≡ length (carried v) + length r'.fds.now
+  pub rest : left r ≡ before v (left r')
+
+-- the record of the next value; none where there is no next type, or no value of it
+abbrev pub Took : Reader → Option (Argument OwnedFd) → Reader → Type 0
+Took r None r' = (r.kinds.now ≡ []) ⊎ (left r ≡ None)
+Took r (Some a) r' = (v : Value OwnedFd) × (a ≡ record_of r.at v) × Behind v r r'
+
+-- the records of values from a place on, and how many descriptors they have
+abbrev pub Gives : Option (List (Value OwnedFd)) → ℕ → ℕ → List (Argument OwnedFd) → Type 0
+Gives None at n rs = ⊥
+Gives (Some vs) at n rs = (n ≡ length (descriptors vs)) × (rs ≡ records_of at vs)
