@@ -45,7 +45,3 @@ moved r r' t a n k s l en ek kinds at bytes fds =
         rest = cc;
       },
     )
-
-pub some_before : {X : Type 0} (v : Value X) (o : Option (List (Value X))) → is_some (before v o) ≡ is_some o
-some_before v None = refl
-some_before v (Some vs) = refl

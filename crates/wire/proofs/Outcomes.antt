@@ -6,18 +6,10 @@ pub mapped_some : {A B : Type 0} (f : A → B) (o : Option A) (y : B) → Some y
 mapped_some f None y e = absurd (let z : ◌≡◌ {A = ℕ} 0 1 = cc in omega arith)
 mapped_some f (Some v) y e = (v, refl, cc)
 
-pub mapped_none : {A B : Type 0} (f : A → B) (o : Option A) → None ≡ option_map f o → o ≡ None
-mapped_none f None e = refl
-mapped_none f (Some v) e = absurd (let z : ◌≡◌ {A = ℕ} 0 1 = cc in omega arith)
-
 -- a value that a test let through
 pub passed : {A : Type 0} (b : Bool) (x : Option A) (v : A) → cond b x None ≡ Some v → (b ≡ true) × (x ≡ Some v)
 passed true x v e = (refl, e)
 passed false x v e = absurd (let z : ◌≡◌ {A = ℕ} 0 1 = cc in omega arith)
-
-pub got : {A : Type 0} (b : Bool) (n x : A) → Some n ≡ cond b (Some x) None → (b ≡ true) × (n ≡ x)
-got true n x e = (refl, cc)
-got false n x e = absurd (let z : ◌≡◌ {A = ℕ} 0 1 = cc in omega arith)
 
 -- an answer behind a refusal that was not given, where the test is for the refusal, and where it is against it
 pub past : {A E : Type 0} (b : Bool) (why : E) (r : Result A E) (x : A) → cond b (Err why) r ≡ Ok x → (b ≡ false) × (r ≡ Ok x)

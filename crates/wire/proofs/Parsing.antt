@@ -1,4 +1,4 @@
--- What `parse` is, check by check.
+-- What `parse` is where every check is passed.
 use Rattle.std.proofs.Common.{◌≡◌, ℕ, ◌<◌, ◌≤◌, false, cond, ltb, List, length, take, drop, is_some, Some, None, Err, Option, Result, sym, refl, ap, ◌∙◌, Bor}
 use Rattle.std.proofs.lemmas.Bool.{cond-true, cond-false, lt-ltb, le-ltb, true≢false}
 use Rattle.protocol.specs.declared.argument.Argument.{Argument}
@@ -11,41 +11,14 @@ use Rattle.wire.specs.Values.{Value, descriptors}
 use Rattle.wire.specs.Read.{Parsed, parse, parsed, values, word_at, opcode_at, size_at, fd_count}
 use Rattle.wire.specs.Answers.{Filled, Reading, header_at}
 
-module _ {X : Type 0} (room : ℕ) (ts : List ArgumentType) (raw : List ℕ) (xs : List X) where
-  pub no_header : length raw < 8 → parse room ts raw xs ≡ Err MissingData
-  no_header h = cond-true _ _ _ (lt-ltb _ _ h)
-
-  pub size_small : 8 ≤ length raw → size_at raw < 8 → parse room ts raw xs ≡ Err Malformed
-  size_small l h = cond-false _ _ _ (le-ltb _ _ l) ∙ cond-true _ _ _ (lt-ltb _ _ h)
-
-  pub not_whole : 8 ≤ length raw → 8 ≤ size_at raw → length raw < size_at raw → parse room ts raw xs ≡ Err MissingData
-  not_whole l s h = cond-false _ _ _ (le-ltb _ _ l) ∙ cond-false _ _ _ (le-ltb _ _ s) ∙ cond-true _ _ _ (lt-ltb _ _ h)
-
-  abbrev Whole : Type 0
-  Whole = (8 ≤ length raw) × (8 ≤ size_at raw) × (size_at raw ≤ length raw)
-
-  after_size : Whole → parse room ts raw xs ≡ cond (ltb (length xs) (fd_count ts)) (Err MissingFd) (cond (ltb room (length ts)) (Err Small) (parsed raw xs (values ts (drop 8 (take (size_at raw) raw)) xs)))
-  after_size w = cond-false _ _ _ (le-ltb _ _ w.0) ∙ cond-false _ _ _ (le-ltb _ _ w.1) ∙ cond-false _ _ _ (le-ltb _ _ w.2)
-
-  pub fds_missing : Whole → length xs < fd_count ts → parse room ts raw xs ≡ Err MissingFd
-  fds_missing w h = after_size w ∙ cond-true _ _ _ (lt-ltb _ _ h)
-
-  pub room_small : Whole → fd_count ts ≤ length xs → room < length ts → parse room ts raw xs ≡ Err Small
-  room_small w f h = after_size w ∙ cond-false _ _ _ (le-ltb _ _ f) ∙ cond-true _ _ _ (lt-ltb _ _ h)
-
-  pub after_checks : Whole → fd_count ts ≤ length xs → length ts ≤ room → parse room ts raw xs ≡ parsed raw xs (values ts (drop 8 (take (size_at raw) raw)) xs)
-  after_checks w f h = after_size w ∙ cond-false _ _ _ (le-ltb _ _ f) ∙ cond-false _ _ _ (le-ltb _ _ h)
+pub after_checks : {X : Type 0} (room : ℕ) (ts : List ArgumentType) (raw : List ℕ) (xs : List X) → (8 ≤ length raw) × (8 ≤ size_at raw) × (size_at raw ≤ length raw) → fd_count ts ≤ length xs → length ts ≤ room
+    → parse room ts raw xs ≡ parsed raw xs (values ts (drop 8 (take (size_at raw) raw)) xs)
+after_checks room ts raw xs w f h =
+    cond-false _ _ _ (le-ltb _ _ w.0) ∙ cond-false _ _ _ (le-ltb _ _ w.1) ∙ cond-false _ _ _ (le-ltb _ _ w.2)
+    ∙ cond-false _ _ _ (le-ltb _ _ f) ∙ cond-false _ _ _ (le-ltb _ _ h)
 
 abbrev pub given_as : {X : Type 0} → List ℕ → List X → List (Value X) → Parsed X
 given_as raw xs vs = record { message = record { sender = word_at raw; opcode = opcode_at raw; args = vs }; size = size_at raw; rest = drop (size_at raw) raw; left = drop (length (descriptors vs)) xs }
-
-none_since : {A : Type 0} (o : Option A) → false ≡ is_some o → o ≡ None
-none_since None e = refl
-none_since (Some x) e = absurd (true≢false (sym e))
-
-pub arguments_bad : {X : Type 0} (ts : List ArgumentType) (raw : List ℕ) (xs : List X) (p : Result (Parsed X) Refusal) → p ≡ parsed raw xs (values ts (drop 8 (take (size_at raw) raw)) xs)
-    → false ≡ is_some (values ts (drop 8 (take (size_at raw) raw)) xs) → p ≡ Err Malformed
-arguments_bad ts raw xs p e h = e ∙ ap (parsed raw xs) (none_since _ h)
 
 -- the size in the header that the code reads
 pub size_is : (h : Header) (raw : List ℕ) → h ≡ header_at raw → h.size ≡ size_at raw

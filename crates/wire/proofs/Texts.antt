@@ -56,12 +56,6 @@ descriptors_are bs (a ∷ xs) = ap (λ c. c ++ descriptors (map (value_of bs) xs
 
 -- one record on
 module _ {X : Type 0} (bs : List ℕ) (xs : List (Argument X)) (i : ℕ) (d : Argument X) (h : i < length xs) where
-  pub good_more : good_text bs (get_or xs i d) ≡ true → good_texts bs (drop i xs) ≡ good_texts bs (drop (i + 1) xs)
-  good_more g = ap (good_texts bs) (drop_more xs i d h) ∙ ap (λ b. b && good_texts bs (drop (i + 1) xs)) g
-
-  pub good_not : good_text bs (get_or xs i d) ≡ false → good_texts bs (drop i xs) ≡ false
-  good_not g = ap (good_texts bs) (drop_more xs i d h) ∙ and_left _ _ g
-
   pub good_split : good_texts bs (drop i xs) ≡ true → (good_text bs (get_or xs i d) ≡ true) × (good_texts bs (drop (i + 1) xs) ≡ true)
   good_split g = and_parts _ _ (sym (ap (good_texts bs) (drop_more xs i d h)) ∙ g)
 

@@ -6,7 +6,7 @@ ghost use Rattle.wire.specs.View.{shown};
 use protocol::{Argument, OwnedFd, Text};
 
 // An argument that was read, its text as a part of the frame, without the final 0.
-#[derive(Clone, Copy)]
+#[derive(Clone, Copy, Debug, PartialEq, Eq)]
 pub enum ArgumentView<'f> {
     Int(i32),
     Uint(u32),

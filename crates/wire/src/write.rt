@@ -7,7 +7,7 @@ ghost use Rattle.wire.specs.Frame.{block, field, fields, frame, known, overlay, 
 ghost use Rattle.wire.specs.Laws.{AllCarry, Carries};
 ghost use Rattle.wire.specs.ReadBack.{ReadBack};
 ghost use Rattle.wire.specs.Records.{block_length, field_length, fields_length, numbers_in, value_of};
-ghost use Rattle.wire.specs.Write.{After, Placed, dup_failure, good_text, good_texts, largest, message_of, unless_failed, write_answer};
+ghost use Rattle.wire.specs.Write.{After, Placed, Stored, dup_failure, good_text, good_texts, largest, message_of, unless_failed, write_answer};
 
 use crate::field::{fd_of, field_len, no_zero};
 use crate::view::part;
@@ -127,7 +127,7 @@ fn put_argument(free: &mut [u8], argument: &Argument<RawFd>, text: &[u8])
 
 impl Measured<'_> {
     // The frame, first in the payload.
-    fn put(&self, payload: &mut [u8])
+    fn put_frame(&self, payload: &mut [u8])
         requires { self.now.size ≤ length payload.old }
         ensures laid { payload.new ≡ overlay (frame (message_of self.now.msg)) payload.old }
         ensures sender { self.now.msg.sender < 2 ^ 32 }
@@ -153,6 +153,16 @@ impl Measured<'_> {
             put_argument(&mut free[at..], argument, self.msg.text);
             at += field_len(argument);
         }
+    }
+
+    // The frame and the duplicates of a message that has passed every check.
+    fn put(&self, payload: &mut [u8], places: &mut [OwnedFd], book: &mut Book)
+        requires { write_answer (good_texts self.now.msg.text.now self.now.msg.args.now) (message_of self.now.msg) (length payload.old) (length places.old) (files book.old) ≡ Ok self.now.size }
+        ensures stored { Stored (message_of self.now.msg) payload.old places.old (files book.old) payload.new places.new (files book.new) }
+        ensures readback { ReadBack (Ok self.now.size) self.now.msg.args.now (message_of self.now.msg) payload.new places.new (files book.old) (files book.new) }
+    {
+        self.put_frame(payload);
+        put_duplicates(self.msg.args, places, book);
     }
 }
 
@@ -197,7 +207,6 @@ pub fn write_to_buffers(
     ensures readback { ReadBack result msg.now.args.now (message_of msg.now) payload.new places.new (files book.old) (files book.new) }
 {
     let measured = check_message(msg, payload.len(), places.len(), book)?;
-    measured.put(payload);
-    put_duplicates(msg.args, places, book);
+    measured.put(payload, places, book);
     Ok(measured.size)
 }

@@ -1,7 +1,38 @@
-use Rattle.std.proofs.Common.{refl, arith}
-use Rattle.wire.specs.Write.{message_of}
-use Rattle.wire.proofs.Writing.{frame_laid}
+use Rattle.std.proofs.Common.{◌≡◌, ◌-◌, ◌≤◌, List, length, None, sym, subst, arith}
+use Rattle.protocol.specs.declared.fd.RawFd.{RawFd}
+use Rattle.book.specs.Files.{numbers, opened}
+use Rattle.book.specs.View.{files}
+use Rattle.book.proofs.Lengths.{files_length}
+use Rattle.wire.specs.Write.{Placed, dup_failure, good_texts, message_of}
+use Rattle.wire.proofs.Regaining.{matching_typed, read_back}
+use Rattle.wire.proofs.Texts.{descriptors_are}
+use Rattle.wire.proofs.Writing.{Admitted, admitted}
 use Rattle.wire.proofs.write.Measured.put.Goals as goal
+use Rattle.wire.proofs.write.Measured.put.Goals.{Start}
 
-pub returns-clause-laid : goal.returns-clause-laid
-returns-clause-laid c = frame_laid (message_of c.args.self.now.msg) _ _ _ c.args.payload.now c.put_word.new.free c.put_word-2.new.free c.put_arguments.new.free (omega arith) (omega (arith, c.from.ensures)) c.put_word.ensures refl c.put_word-2.ensures refl c.put_arguments.ensures.laid
+checks : (c : Start) → Admitted (good_texts c.args.self.now.msg.text.now c.args.self.now.msg.args.now) (message_of c.args.self.now.msg) (length c.args.payload.now) (length c.args.places.now) (files c.args.book.now) c.args.self.now.size
+checks c = admitted (good_texts c.args.self.now.msg.text.now c.args.self.now.msg.args.now) (message_of c.args.self.now.msg) (length c.args.payload.now) (length c.args.places.now) (files c.args.book.now) c.args.self.now.size c.requires
+
+pub put_frame-requires : goal.put_frame-requires
+put_frame-requires c = let a = checks (goal.at.put_frame-requires c).Start in omega (arith, a.bytes, a.size)
+
+pub put_duplicates-requires : goal.put_duplicates-requires
+put_duplicates-requires c =
+    let a = checks (goal.at.put_duplicates-requires c).Start in
+    let e = descriptors_are c.args.self.now.msg.text.now c.args.self.now.msg.args.now in
+    record {
+      can = subst (λ (ns : List RawFd). dup_failure (files c.args.book.now) (numbers - opened (files c.args.book.now)) ns ≡ None) e a.can;
+      room = subst (λ (ns : List RawFd). length ns ≤ length c.args.places.now) e a.fds;
+    }
+
+pub returns : goal.returns
+returns c =
+    let a = checks (goal.at.returns c).Start in
+    let placed = subst (λ (ns : List RawFd). Placed ns c.args.places.now (files c.args.book.now) c.put_duplicates.new.places (files c.put_duplicates.new.book)) (sym (descriptors_are c.args.self.now.msg.text.now c.args.self.now.msg.args.now)) c.put_duplicates.ensures in
+    record {
+      stored = record { bytes = c.put_frame.ensures.laid; fds = placed };
+      readback = λ ts room rest more h r.
+          read_back ts room (message_of c.args.self.now.msg) c.args.self.now.size c.args.payload.now c.put_frame.new.payload c.args.places.now c.put_duplicates.new.places rest more (files c.args.book.now) (files c.put_duplicates.new.book)
+          a.size c.put_frame.ensures.laid (matching_typed c.args.self.now.msg.text.now ts c.args.self.now.msg.args.now h c.put_frame.ensures.args)
+          c.put_frame.ensures.sender c.put_frame.ensures.opcode a.small a.bytes (files_length c.args.book.now) placed r;
+    }
