@@ -1,7 +1,7 @@
 -- Laws of bytes that fit a frame.
 use Rattle.std.proofs.Common.{◌≡◌, ℕ, zero, suc, ◌+◌, ◌*◌, ◌/◌, ◌%◌, ◌^◌, ◌<◌, List, [], ◌∷◌, ◌++◌, length, replicate, Some, None, Option, sym, refl, ap, ◌∙◌, mod-eq_of_lt, arith}
-use native.Mathlib.Nat.{div-add-mod, div-div-eq-div-mul}
 use Rattle.std.proofs.lemmas.List.{length-replicate}
+use Rattle.std.proofs.lemmas.Nat.{from_le_bytes-to_le_bytes_4}
 use Rattle.wire.specs.Frame.{Fits, known, word, block, padding}
 use Rattle.wire.specs.Read.{word_at}
 
@@ -53,34 +53,9 @@ fits_join (x ∷ f) g [] cs h k = absurd h
 fits_join (Some a ∷ f) g (b ∷ bs) cs h k = (h.0, fits_join f g bs cs h.1 k)
 fits_join (None ∷ f) g (b ∷ bs) cs h k = fits_join f g bs cs h k
 
--- a number by its digits in base 256
-digits : (n a b c r₀ r₁ r₂ : ℕ) → 256 * a + r₀ ≡ n → 256 * b + r₁ ≡ a → 256 * c + r₂ ≡ b → r₀ + r₁ * 256 + r₂ * 65536 + c * 16777216 ≡ n
-digits n a b c r₀ r₁ r₂ e f g = omega arith
-
 -- a word is read as its number
 pub word_read : (n : ℕ) (rest : List ℕ) → n < 2 ^ 32 → word_at (word n ++ rest) ≡ n
-word_read n rest h =
-    let top : n / 16777216 < 256 = omega arith in
-    let q2 : n / 256 / 256 ≡ n / 65536 = div-div-eq-div-mul n 256 256 in
-    let q3 : n / 65536 / 256 ≡ n / 16777216 = div-div-eq-div-mul n 65536 256 in
-    ap (λ (x : ℕ). n % 256 + n / 256 % 256 * 256 + n / 65536 % 256 * 65536 + x * 16777216) (mod-eq_of_lt top)
-    ∙ digits n (n / 256) (n / 65536) (n / 16777216) (n % 256) (n / 256 % 256) (n / 65536 % 256) (div-add-mod n 256)
-    (ap (λ (x : ℕ). 256 * x + n / 256 % 256) (sym q2) ∙ div-add-mod (n / 256) 256) (ap (λ (x : ℕ). 256 * x + n / 65536 % 256) (sym q3) ∙ div-add-mod (n / 65536) 256)
-
--- four bytes are the word of their number
-pub word_bytes : (a b c d : ℕ) → a < 256 → b < 256 → c < 256 → d < 256 → word (a + b * 256 + c * 65536 + d * 16777216) ≡ a ∷ b ∷ c ∷ d ∷ []
-word_bytes a b c d ha hb hc hd =
-    let n : ℕ = a + b * 256 + c * 65536 + d * 16777216 in
-    let q1 : (a + b * 256 + c * 65536 + d * 16777216) / 256 ≡ b + c * 256 + d * 65536 = omega arith in
-    let q2 : (a + b * 256 + c * 65536 + d * 16777216) / 65536 ≡ c + d * 256 =
-    sym (div-div-eq-div-mul (a + b * 256 + c * 65536 + d * 16777216) 256 256) ∙ ap (λ (x : ℕ). x / 256) q1 ∙ omega arith in
-    let q3 : (a + b * 256 + c * 65536 + d * 16777216) / 16777216 ≡ d =
-    sym (div-div-eq-div-mul (a + b * 256 + c * 65536 + d * 16777216) 65536 256) ∙ ap (λ (x : ℕ). x / 256) q2 ∙ omega arith in
-    let e0 : (a + b * 256 + c * 65536 + d * 16777216) % 256 ≡ a = omega arith in
-    let e1 : (a + b * 256 + c * 65536 + d * 16777216) / 256 % 256 ≡ b = ap (λ (x : ℕ). x % 256) q1 ∙ omega arith in
-    let e2 : (a + b * 256 + c * 65536 + d * 16777216) / 65536 % 256 ≡ c = ap (λ (x : ℕ). x % 256) q2 ∙ omega arith in
-    let e3 : (a + b * 256 + c * 65536 + d * 16777216) / 16777216 % 256 ≡ d = ap (λ (x : ℕ). x % 256) q3 ∙ omega arith in
-    cc
+word_read n rest h = from_le_bytes-to_le_bytes_4 n h
 
 -- the bytes of a block: a length, the bytes, and as many more as its padding
 pub record Blocked (bs front : List ℕ) : Type 0 where

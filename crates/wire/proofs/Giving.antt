@@ -2,6 +2,7 @@
 use Rattle.std.proofs.Common.{◌≡◌, ℕ, ◌+◌, ◌-◌, ◌*◌, ◌^◌, ◌<◌, ◌≤◌, true, ltb, List, [], ◌∷◌, ◌++◌, length, get_or, take, drop, Some, None, Ok, Option, sym, refl, ap, ◌∙◌, subst, inl, inr, div-add-mod', arith, take-add, w32, to_z}
 use Rattle.std.proofs.lemmas.List.{append_assoc, length-append, take-append-drop, drop-drop, length-take, length-drop, get_or-drop, get_or-take, nil_from_length, drop-append-le, get_or_past}
 use Rattle.std.proofs.lemmas.Int.{of_z-to_z}
+use Rattle.std.proofs.lemmas.Nat.{le_bytes_4}
 use mir.ValLaws.{to_z-Fits}
 use Rattle.std.proofs.lemmas.Bool.{ltb-false, cases_lt}
 use Rattle.protocol.specs.declared.argument.ArgumentType.{ArgumentType}
@@ -12,7 +13,7 @@ use Rattle.wire.specs.Values.{Value, int, uint, fixed, object, new_id, descripto
 use Rattle.wire.specs.Frame.{Fits, known, word, padding, block, field, fields}
 use Rattle.wire.specs.Read.{Parsed, word_at, number, whole, inner, text, first, one, before, values, fd_count, size_at, opcode_at, parsed}
 use Rattle.wire.specs.Laws.{type_of_value, Carries, Typed, Framed, GivesFrames}
-use Rattle.wire.proofs.Fitting.{block_fits, fits_join, known_fits, word_bytes}
+use Rattle.wire.proofs.Fitting.{block_fits, fits_join, known_fits}
 use Rattle.wire.proofs.Parsing.{given_as}
 use Rattle.wire.proofs.Walk.{length_block, then_got, before_got, one_within, number_got, text_got, array_got, whole_fits, length_inner}
 use Rattle.wire.proofs.Outcomes.{passed, past}
@@ -24,13 +25,19 @@ Bytes bs = (k : ℕ) → get_or bs k 0 < 256
 pub bytes_drop : (n : ℕ) (bs : List ℕ) → Bytes bs → Bytes (drop n bs)
 bytes_drop n bs h k = subst (λ (b : ℕ). b < 256) (sym (get_or-drop n bs k 0)) (h (n + k))
 
+bytes_take : (n : ℕ) (bs : List ℕ) → Bytes bs → Bytes (take n bs)
+bytes_take n bs h k = elim (cases_lt k n) [
+  | inl l ↦ subst (λ (b : ℕ). b < 256) (sym (get_or-take n bs k 0 l)) (h k)
+  | inr l ↦ subst (λ (b : ℕ). b < 256) (sym (get_or_past (take n bs) k 0 (simp length-take (omega arith)))) (omega arith)
+]
+
 -- the first four bytes are the word of their number
 four : (bs : List ℕ) → Bytes bs → 4 ≤ length bs → take 4 bs ≡ word (word_at bs)
 four [] h l = absurd (omega arith)
 four (a ∷ []) h l = absurd (omega arith)
 four (a ∷ b ∷ []) h l = absurd (omega arith)
 four (a ∷ b ∷ c ∷ []) h l = absurd (omega arith)
-four (a ∷ b ∷ c ∷ d ∷ bs) h l = sym (word_bytes a b c d (h 0) (h 1) (h 2) (h 3))
+four (a ∷ b ∷ c ∷ d ∷ bs) h l = sym (le_bytes_4 (a ∷ b ∷ c ∷ d ∷ []) _ refl (bytes_take 4 (a ∷ b ∷ c ∷ d ∷ bs) h) refl)
 
 word_small : (bs : List ℕ) → Bytes bs → word_at bs < 2 ^ 32
 word_small bs h = let a = h 0 in let b = h 1 in let c = h 2 in let d = h 3 in omega arith
@@ -43,7 +50,7 @@ pub record Given {X : Type 0} (t : ArgumentType) (bs : List ℕ) (xs : List X) (
   taken : xs ≡ carried v ++ drop (length (carried v)) xs
 
 given_fd : {X : Type 0} {bs : List ℕ} (xs : List X) (v : Value X) → first xs ≡ Some v → Given type.Fd bs xs v
-given_fd {X} {bs} [] v e = absurd (let z : ◌≡◌ {A = ℕ} 0 1 = cc in omega arith)
+given_fd {X} {bs} [] v e = cc
 given_fd {X} {bs} (x ∷ xs) v e =
     let q : descriptor x ≡ v = cc in
     subst (Given type.Fd bs (x ∷ xs)) q (record { kinds = refl; carries = tt; fits = tt; taken = refl })
@@ -129,7 +136,7 @@ all_given (t ∷ ts) bs xs vs h e =
     })
 
 pub parsed_got : {X : Type 0} (raw : List ℕ) (xs : List X) (o : Option (List (Value X))) (p : Parsed X) → parsed raw xs o ≡ Ok p → (vs : List (Value X)) × (o ≡ Some vs) × (given_as raw xs vs ≡ p)
-parsed_got raw xs None p e = absurd (let z : ◌≡◌ {A = ℕ} 0 1 = cc in omega arith)
+parsed_got raw xs None p e = cc
 parsed_got raw xs (Some vs) p e = (vs, refl, cc)
 
 module _ {X : Type 0} (ts : List ArgumentType) (raw : List ℕ) (xs : List X) (vs : List (Value X)) (h : Bytes raw) (l : 8 ≤ length raw) (s : 8 ≤ size_at raw) (w : size_at raw ≤ length raw)
@@ -191,12 +198,6 @@ module _ {X : Type 0} (ts : List ArgumentType) (raw : List ℕ) (xs : List X) (v
     typed = g.typed;
     descriptors_are = g.taken;
   }
-
-bytes_take : (n : ℕ) (bs : List ℕ) → Bytes bs → Bytes (take n bs)
-bytes_take n bs h k = elim (cases_lt k n) [
-  | inl l ↦ subst (λ (b : ℕ). b < 256) (sym (get_or-take n bs k 0 l)) (h k)
-  | inr l ↦ subst (λ (b : ℕ). b < 256) (sym (get_or_past (take n bs) k 0 (simp length-take (omega arith)))) (omega arith)
-]
 
 pub gives_frames : {X : Type 0} (room : ℕ) (ts : List ArgumentType) (raw : List ℕ) (xs : List X) → Bytes raw → GivesFrames room ts raw xs
 gives_frames room ts raw xs h p e =

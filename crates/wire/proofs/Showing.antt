@@ -61,7 +61,7 @@ shown_one {X} type.Array f at xs v e =
     let p = array_got (drop at f) v e in
     subst (λ (w : Value X). value_in f (record_of at w) ≡ Some w) (sym p.1)
     (cond-true _ _ _ (le-leb _ _ (inside f at p.0 (inner (drop at f)) [] (append-nil (inner (drop at f))))) ∙ ap (λ (b : List ℕ). Some (array b)) (front f at p.0 (inner (drop at f)) [] (append-nil (inner (drop at f)))))
-shown_one type.Fd f at [] v e = absurd (let z : ◌≡◌ {A = ℕ} 0 1 = cc in omega arith)
+shown_one type.Fd f at [] v e = cc
 shown_one {X} type.Fd f at (x ∷ xs) v e = let q : descriptor x ≡ v = cc in subst (λ (w : Value X). value_in f (record_of at w) ≡ Some w) q refl
 
 pub shown_all : {X : Type 0} (ts : List ArgumentType) (f : List ℕ) (at : ℕ) (xs : List X) (vs : List (Value X)) → values ts (drop at f) xs ≡ Some vs → map (value_in f) (records_of at vs) ≡ map Some vs

@@ -107,7 +107,7 @@ one_within type.Array bs xs v e =
     let w = whole_fits bs p.0 in
     let l = length_whole bs p.0 in
     subst (Within bs xs) (sym p.1) (omega arith, omega arith)
-one_within type.Fd bs [] v e = absurd (let z : ◌≡◌ {A = ℕ} 0 1 = cc in omega arith)
+one_within type.Fd bs [] v e = cc
 one_within type.Fd bs (x ∷ xs) v e = let q : descriptor x ≡ v = cc in subst (Within bs (x ∷ xs)) q (omega arith, omega arith)
 
 -- an argument that was read at a place, by its record
@@ -136,11 +136,11 @@ stepped t at bs xs a e =
 
 -- what the first value of several is, and the others
 pub then_got : {X : Type 0} (o : Option (Value X)) (next : Value X → Option (List (Value X))) (vs : List (Value X)) → then o next ≡ Some vs → (v : Value X) × (o ≡ Some v) × (next v ≡ Some vs)
-then_got None next vs e = absurd (let z : ◌≡◌ {A = ℕ} 0 1 = cc in omega arith)
+then_got None next vs e = cc
 then_got (Some v) next vs e = (v, refl, e)
 
 pub before_got : {X : Type 0} (v : Value X) (o : Option (List (Value X))) (vs : List (Value X)) → before v o ≡ Some vs → (us : List (Value X)) × (o ≡ Some us) × (vs ≡ v ∷ us)
-before_got v None vs e = absurd (let z : ◌≡◌ {A = ℕ} 0 1 = cc in omega arith)
+before_got v None vs e = cc
 before_got v (Some us) vs e = (us, refl, cc)
 
 pub length_records : {X : Type 0} (at : ℕ) (vs : List (Value X)) → length (records_of at vs) ≡ length vs

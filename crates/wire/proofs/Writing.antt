@@ -18,14 +18,14 @@ measured true s n e = elim (cases_Bool (ltb largest s)) [
   | inl t ↦ absurd (let d = e ∙ cond-true _ _ _ t in let z : ◌≡◌ {A = ℕ} 0 1 = cc in omega arith)
   | inr f ↦ (refl, ltb-false _ _ f, (let d = e ∙ cond-false _ _ _ f in cc))
 ]
-measured false s n e = absurd (let z : ◌≡◌ {A = ℕ} 0 1 = cc in omega arith)
+measured false s n e = cc
 
 pub duplicable : (o : Option ℕ) (c k : ℕ) → Ok k ≡ unless_failed o (Ok c) → (o ≡ None) × (k ≡ c)
 duplicable None c k e = (refl, cc)
-duplicable (Some code) c k e = absurd (let z : ◌≡◌ {A = ℕ} 0 1 = cc in omega arith)
+duplicable (Some code) c k e = cc
 
 failed_anyhow : (o : Option ℕ) (c : ℕ) (q : Result ℕ Refusal) (why : Refusal) → Err why ≡ unless_failed o (Ok c) → unless_failed o q ≡ Err why
-failed_anyhow None c q why e = absurd (let z : ◌≡◌ {A = ℕ} 0 1 = cc in omega arith)
+failed_anyhow None c q why e = cc
 failed_anyhow (Some code) c q why e = sym e
 
 module _ (g : Bool) (m : Message RawFd) (payload places : ℕ) (fs : Files) (ns : List RawFd) (e : descriptors m.args ≡ ns) (good : g ≡ true) (fits : size_of m ≤ largest) where
@@ -73,7 +73,7 @@ pub record Admitted (g : Bool) (m : Message RawFd) (payload places : ℕ) (fs : 
 
 failure_got : (o : Option ℕ) (r : Result ℕ Refusal) (n : ℕ) → unless_failed o r ≡ Ok n → (o ≡ None) × (r ≡ Ok n)
 failure_got None r n e = (refl, e)
-failure_got (Some code) r n e = absurd (let z : ◌≡◌ {A = ℕ} 0 1 = cc in omega arith)
+failure_got (Some code) r n e = cc
 
 pub admitted : (g : Bool) (m : Message RawFd) (payload places : ℕ) (fs : Files) (n : ℕ) → write_answer g m payload places fs ≡ Ok n → Admitted g m payload places fs n
 admitted g m payload places fs n e =
