@@ -7,6 +7,7 @@ ghost use Rattle.wire.specs.Laws.{GivesFrames, ReadsFrames};
 use crate::reader::{Reader, word};
 use protocol::{Argument, ArgumentType, Header, OwnedFd, Refusal};
 
+// The halves of the second word are proved casts: `u16::try_from` would add a refusal that cannot come.
 fn header_of(raw: &[u8]) -> Option<Header>
     ensures { result ≡ (if nat_le 8 (length raw.now) then Some (header_at raw.now) else None) }
 {

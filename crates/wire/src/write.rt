@@ -102,6 +102,7 @@ fn put_block(free: &mut [u8], bytes: &[u8], end: &[u8])
 {
     let start = 4 + bytes.len();
     let len = bytes.len() + end.len();
+    // A proved cast: `u32::try_from` would add a refusal that cannot come.
     put_word(free, len as u32);
     free[4..start].copy_from_slice(bytes);
     free[start..4 + len].copy_from_slice(end);
@@ -148,6 +149,7 @@ impl Measured<'_> {
         ensures laid { free.new ≡ overlay (fields (message_of self.now.msg).args) free.old }
         ensures carries { AllCarry (message_of self.now.msg).args }
     {
+        // By place: after a loop that cuts off each field with `split_at_mut`, a proof knows nothing of the bytes.
         let mut at = 0;
         for argument in self.msg.args {
             put_argument(&mut free[at..], argument, self.msg.text);
@@ -172,6 +174,7 @@ fn put_duplicates(args: &[Argument<RawFd>], places: &mut [OwnedFd], book: &mut B
     requires room { length (numbers_in args.now) ≤ length places.old }
     ensures { Placed (numbers_in args.now) places.old (files book.old) places.new (files book.new) }
 {
+    // Indexed: after a loop over `places.iter_mut()` and the descriptors together, a proof knows nothing of the places.
     for (at, fd) in args.iter().filter_map(fd_of).enumerate() {
         places[at] = book.duplicate(fd).unwrap();
     }
