@@ -10,7 +10,6 @@ use Rattle.wire.specs.declared.reader.Reader.{Reader}
 use Rattle.wire.specs.Values.{Value, carried, descriptors}
 use Rattle.wire.specs.Read.{values}
 use Rattle.wire.specs.Records.{records_of}
-use Rattle.wire.specs.Answers.{Filled}
 use Rattle.wire.specs.Reader.{Gives, Took, left}
 use Rattle.wire.proofs.Walk.{before_got, length_records}
 
@@ -61,15 +60,12 @@ module _ (r₀ r : Reader) (i : ℕ) (rs : List (Argument OwnedFd)) (w : Filling
         few = omega (arith, b.fds, w.few);
       }
 
-  pub filling_all : i ≡ length r₀.kinds.now → length rs ≤ i → Gives (left r₀) r₀.at (length r₀.fds.now - length r.fds.now) rs
-  filling_all k l =
+  pub filling_all : i ≡ length r₀.kinds.now → length rs ≡ i → (old : List (Argument OwnedFd)) → Gives (left r₀) r₀.at (length r₀.fds.now - length r.fds.now) old (rs ++ drop (length r₀.kinds.now) old)
+  filling_all k l old =
       let none : length r.kinds.now ≡ 0 = omega (arith, w.kinds) in
       let last : values [] r.bytes.now r.fds.now ≡ Some w.rest = ap (λ (ks : List ArgumentType). values ks r.bytes.now r.fds.now) (sym (nil_from_length r.kinds.now none)) ∙ w.here in
       let empty : [] ≡ w.rest = cc in
-      subst (λ (o : Option (List (Value OwnedFd))). Gives o r₀.at (length r₀.fds.now - length r.fds.now) rs) (sym w.whole)
-      ((let n = ap (λ (x : List (Value OwnedFd)). length (descriptors x)) empty in omega (arith, w.fds)), sym (append-nil rs) ∙ ap (λ (x : List (Argument OwnedFd)). x ++ []) (sym (take_all i rs l)) ∙ ap (λ (x : List (Value OwnedFd)). take i rs ++ records_of r.at x) empty ∙ w.records)
-
--- the first records of a caller, filled, and its cursor moved on
-pub filled : (o : Option (List (Value OwnedFd))) (n k cursor : ℕ) (fs rs : List (Argument OwnedFd)) → Gives o 8 n fs → length fs ≡ k → Filled o cursor rs (cursor + n) (fs ++ drop k rs)
-filled None n k cursor fs rs g l = g
-filled (Some vs) n k cursor fs rs g l = (ap (λ m. cursor + m) g.0, ap (λ (x : List (Argument OwnedFd)). x ++ drop k rs) g.1 ∙ ap (λ (m : ℕ). records_of 8 vs ++ drop m rs) (sym l ∙ ap length g.1 ∙ length_records 8 vs))
+      let is : rs ≡ records_of r₀.at w.all = sym (append-nil rs) ∙ ap (λ (x : List (Argument OwnedFd)). x ++ []) (sym (take_all i rs (omega arith))) ∙ ap (λ (x : List (Value OwnedFd)). take i rs ++ records_of r.at x) empty ∙ w.records in
+      let size : length r₀.kinds.now ≡ length w.all = sym k ∙ sym l ∙ ap length is ∙ length_records r₀.at w.all in
+      subst (λ (o : Option (List (Value OwnedFd))). Gives o r₀.at (length r₀.fds.now - length r.fds.now) old (rs ++ drop (length r₀.kinds.now) old)) (sym w.whole)
+      ((let n = ap (λ (x : List (Value OwnedFd)). length (descriptors x)) empty in omega (arith, w.fds)), ap (λ (x : List (Argument OwnedFd)). x ++ drop (length r₀.kinds.now) old) is ∙ ap (λ (n : ℕ). records_of r₀.at w.all ++ drop n old) size)

@@ -1,5 +1,5 @@
 -- What an Option or a Result that came through a test says of the test.
-use Rattle.std.proofs.Common.{◌≡◌, ℕ, Bool, true, false, cond, Some, None, Ok, Err, Option, Result, refl, arith}
+use Rattle.std.proofs.Common.{◌≡◌, Bool, true, false, cond, Some, None, Ok, Err, Option, Result, refl}
 use Rattle.std.specs.Option.{option_map}
 
 pub mapped_some : {A B : Type 0} (f : A → B) (o : Option A) (y : B) → Some y ≡ option_map f o → (v : A) × (o ≡ Some v) × (y ≡ f v)
@@ -10,6 +10,10 @@ mapped_some f (Some v) y e = (v, refl, cc)
 pub passed : {A : Type 0} (b : Bool) (x : Option A) (v : A) → cond b x None ≡ Some v → (b ≡ true) × (x ≡ Some v)
 passed true x v e = (refl, e)
 passed false x v e = cc
+
+pub got : {A : Type 0} (b : Bool) (n x : A) → Some n ≡ cond b (Some x) None → n ≡ x
+got true n x e = cc
+got false n x e = cc
 
 -- an answer behind a refusal that was not given, where the test is for the refusal, and where it is against it
 pub past : {A E : Type 0} (b : Bool) (why : E) (r : Result A E) (x : A) → cond b (Err why) r ≡ Ok x → (b ≡ false) × (r ≡ Ok x)

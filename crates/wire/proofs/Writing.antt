@@ -1,7 +1,7 @@
 -- What `write_answer` is, check by check, and what the code knows after each.
-use Rattle.std.proofs.Common.{◌≡◌, ℕ, ◌+◌, ◌-◌, ◌*◌, ◌<◌, ◌≤◌, Bool, true, false, cond, ◌||◌, ltb, ◌⊎◌, List, ◌++◌, length, take, drop, Some, None, Ok, Err, Option, Result, sym, refl, ap, ◌∙◌, inl, inr, ⊎_elim, arith}
+use Rattle.std.proofs.Common.{◌≡◌, ℕ, ◌+◌, ◌-◌, ◌*◌, ◌<◌, ◌≤◌, Bool, true, cond, ◌||◌, ltb, ◌⊎◌, List, ◌++◌, length, take, drop, Some, None, Ok, Err, Option, Result, sym, refl, ap, ◌∙◌, ⊎_elim, arith}
 use borrow.Rule.Slice.PartMut.{put_mid}
-use Rattle.std.proofs.lemmas.Bool.{cond-true, cond-false, lt-ltb, le-ltb, ltb-false, or_left, or_right, or_from, or_parts, cases_Bool}
+use Rattle.std.proofs.lemmas.Bool.{cond-true, cond-false, lt-ltb, le-ltb, ltb-false, or_left, or_right, or_from, or_parts}
 use Rattle.protocol.specs.declared.fd.RawFd.{RawFd}
 use Rattle.protocol.specs.declared.refusal.Refusal.{Refusal}
 use Rattle.protocol.specs.declared.refusal.Refusal.TheVariants.{BadText, Oversize, Short}
@@ -12,13 +12,6 @@ use Rattle.wire.specs.Place.{lay}
 use Rattle.wire.specs.Write.{dup_failure, largest, unless_failed, write_answer}
 use Rattle.wire.proofs.Outcomes.{past, past_not}
 use Rattle.wire.proofs.Laying.{lay_append, length_lay, length_overlay, part_laid}
-
-pub measured : (g : Bool) (s n : ℕ) → Ok n ≡ cond g (cond (ltb largest s) (Err Oversize) (Ok s)) (Err BadText) → (g ≡ true) × (s ≤ largest) × (n ≡ s)
-measured true s n e = elim (cases_Bool (ltb largest s)) [
-  | inl t ↦ absurd (let d = e ∙ cond-true _ _ _ t in let z : ◌≡◌ {A = ℕ} 0 1 = cc in omega arith)
-  | inr f ↦ (refl, ltb-false _ _ f, (let d = e ∙ cond-false _ _ _ f in cc))
-]
-measured false s n e = cc
 
 pub duplicable : (o : Option ℕ) (c k : ℕ) → Ok k ≡ unless_failed o (Ok c) → (o ≡ None) × (k ≡ c)
 duplicable None c k e = (refl, cc)

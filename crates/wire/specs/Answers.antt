@@ -1,13 +1,15 @@
 -- What `parse_message` answers, and what the cursor of the descriptors and the caller's records hold after it.
-use Rattle.std.specs.Prelude.{◌≡◌, ℕ, ◌+◌, ◌≤◌, true, List, ◌++◌, map, length, take, drop, is_some, Some, None, Ok, Err, Option, Result}
+use Rattle.std.specs.Prelude.{◌≡◌, ℕ, ◌+◌, ◌≤◌, List, ◌++◌, map, length, take, drop, Some, None, Ok, Err, Option, Result}
 use Rattle.std.specs.Borrow.{Bor}
 use Rattle.protocol.specs.declared.argument.Argument.{Argument}
 use Rattle.protocol.specs.declared.argument.ArgumentType.{ArgumentType}
 use Rattle.protocol.specs.declared.fd.OwnedFd.{OwnedFd}
 use Rattle.protocol.specs.declared.header.Header.{Header}
 use Rattle.protocol.specs.declared.refusal.Refusal.{Refusal}
+use Rattle.wire.specs.declared.reader.Reader.{Reader}
 use Rattle.wire.specs.Values.{Value, descriptors}
 use Rattle.wire.specs.Read.{Parsed, word_at, opcode_at, size_at, parsed, values}
+use Rattle.wire.specs.Reader.{left}
 use Rattle.wire.specs.Records.{records_of, value_in}
 
 abbrev pub header_at : List ℕ → Header
@@ -35,15 +37,11 @@ Answers p cursor records (Ok r) cursor' records' = Reading p cursor records r cu
 abbrev pub Shows : Result (Parsed OwnedFd) Refusal → List ℕ → List (Argument OwnedFd) → Type 0
 Shows p raw records' = (found : Parsed OwnedFd) → p ≡ Ok found → map (value_in (take found.size raw)) (take (length found.message.args) records') ≡ map Some found.message.args
 
--- every check was passed: the header is the frame's, and the arguments lie in the frame
-pub record Passed (p : Result (Parsed OwnedFd) Refusal) (room : ℕ) (ts : List ArgumentType) (raw : List ℕ) (xs : List OwnedFd) (header : Header) : Type 0 where
+-- every check was passed: what is left to read is the frame's arguments, and they decide the answer
+pub record Passed (p : Result (Parsed OwnedFd) Refusal) (room : ℕ) (ts : List ArgumentType) (raw : List ℕ) (xs : List OwnedFd) (header : Header) (reader : Reader) (tail : List ℕ) : Type 0 where
   pub is : header ≡ header_at raw
-  pub long : 8 ≤ size_at raw
-  pub whole : size_at raw ≤ length raw
-  pub room_enough : length ts ≤ room
-  pub fit : is_some (values ts (drop 8 (take (size_at raw) raw)) xs) ≡ true
-  pub answer : p ≡ parsed raw xs (values ts (drop 8 (take (size_at raw) raw)) xs)
-
-abbrev pub Checked : Result (Parsed OwnedFd) Refusal → ℕ → List ArgumentType → List ℕ → List OwnedFd → Result Header Refusal → Type 0
-Checked p room ts raw xs (Err why) = p ≡ Err why
-Checked p room ts raw xs (Ok header) = Passed p room ts raw xs header
+  pub behind : tail ≡ drop (size_at raw) raw
+  pub args : left reader ≡ values ts (drop 8 (take (size_at raw) raw)) xs
+  pub answer : p ≡ parsed raw xs (left reader)
+  pub room_enough : length reader.kinds.now ≤ room
+  pub fds : reader.fds.now ≡ xs

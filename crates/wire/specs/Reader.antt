@@ -1,5 +1,5 @@
 -- What a reader has left to read, and what it gives.
-use Rattle.std.specs.Prelude.{◌≡◌, ℕ, ◌+◌, ◌⊎◌, List, [], length, Some, None, Option}
+use Rattle.std.specs.Prelude.{◌≡◌, ℕ, ◌+◌, ◌⊎◌, List, [], ◌++◌, length, drop, Some, None, Option}
 use Rattle.protocol.specs.declared.argument.Argument.{Argument}
 use Rattle.protocol.specs.declared.fd.OwnedFd.{OwnedFd}
 use Rattle.wire.specs.declared.reader.Reader.{Reader}
@@ -24,7 +24,7 @@ abbrev pub Took : Reader → Option (Argument OwnedFd) → Reader → Type 0
 Took r None r' = (r.kinds.now ≡ []) ⊎ (left r ≡ None)
 Took r (Some a) r' = (v : Value OwnedFd) × (a ≡ record_of r.at v) × Behind v r r'
 
--- the records of values from a place on, and how many descriptors they have
-abbrev pub Gives : Option (List (Value OwnedFd)) → ℕ → ℕ → List (Argument OwnedFd) → Type 0
-Gives None at n rs = ⊥
-Gives (Some vs) at n rs = (n ≡ length (descriptors vs)) × (rs ≡ records_of at vs)
+-- the first records are those of the values, and so many descriptors were taken
+abbrev pub Gives : Option (List (Value OwnedFd)) → ℕ → ℕ → List (Argument OwnedFd) → List (Argument OwnedFd) → Type 0
+Gives None at n records records' = ⊥
+Gives (Some vs) at n records records' = (n ≡ length (descriptors vs)) × (records' ≡ records_of at vs ++ drop (length vs) records)

@@ -1,8 +1,9 @@
-ghost use Rattle.std.specs.Prelude.{◌≡◌, ◌+◌, ◌^◌, ◌<◌, ◌≤◌, length, drop, if◌then◌else◌, Some, None, nat_le};
+ghost use Rattle.std.specs.Prelude.{◌≡◌, ◌+◌, ◌^◌, ◌<◌, ◌≤◌, true, length, drop, is_some, if◌then◌else◌, Some, None, Err, IfOk, IfErr, nat_le};
 ghost use Rattle.wire.specs.Read.{fd_count};
 ghost use Rattle.wire.specs.Read.{parse as parsing};
-ghost use Rattle.wire.specs.Answers.{Answers, Checked, Passed, Reading, Shows, header_at};
+ghost use Rattle.wire.specs.Answers.{Answers, Filled, Passed, Shows, header_at};
 ghost use Rattle.wire.specs.Laws.{GivesFrames, ReadsFrames};
+ghost use Rattle.wire.specs.Reader.{left};
 
 use crate::reader::{Reader, word};
 use protocol::{Argument, ArgumentType, Header, OwnedFd, Refusal};
@@ -37,50 +38,67 @@ fn fds_left(fds: &[OwnedFd], cursor: usize) -> &[OwnedFd]
     fds.get(cursor..).unwrap_or(&[])
 }
 
-// The checks of a frame, in their order: the header where it passes them all.
-fn check_frame(
-    raw: &[u8],
-    signature: &[ArgumentType],
-    fds: &[OwnedFd],
+// A frame that has passed every check: its header, what there is to read of it, and what follows it.
+struct Checked<'a, 'r> {
+    header: Header,
+    reader: Reader<'r>,
+    tail: &'a [u8],
+    ghost start: { reader.at ≡ 8 },
+    ghost fit: { is_some (left reader) ≡ true },
+}
+
+// The checks, in their order.
+fn check_frame<'a: 'r, 'r>(
+    raw: &'a [u8],
+    signature: &'r [ArgumentType],
+    fds: &'r [OwnedFd],
     room: usize,
-) -> Result<Header, Refusal>
-    ensures { Checked (parsing room signature.now raw.now fds.now) room signature.now raw.now fds.now result }
+) -> Result<Checked<'a, 'r>, Refusal>
+    ensures ok { IfOk result (λ f. Passed (parsing room signature.now raw.now fds.now) room signature.now raw.now fds.now f.header f.reader f.tail.now) }
+    ensures err { IfErr result (λ why. parsing room signature.now raw.now fds.now ≡ Err why) }
 {
     let header = header_of(raw).ok_or(Refusal::MissingData)?;
-    let size = usize::from(header.size);
-    if size < 8 {
+    if header.size < 8 {
         return Err(Refusal::Malformed);
     }
-    let frame = raw.get(..size).ok_or(Refusal::MissingData)?;
+    let (frame, tail) = raw
+        .split_at_checked(usize::from(header.size))
+        .ok_or(Refusal::MissingData)?;
     if fds.len() < fd_count(signature) {
         return Err(Refusal::MissingFd);
     }
     if room < signature.len() {
         return Err(Refusal::Small);
     }
-    if !Reader::new(frame, signature, fds).fits() {
+    let reader = Reader::new(frame, signature, fds);
+    if !reader.fits() {
         return Err(Refusal::Malformed);
     }
-    Ok(header)
+    Ok(Checked {
+        header,
+        reader,
+        tail,
+    })
 }
 
 // The header and the unused tail of a frame that has passed every check, with its records filled.
 fn take_message<'a>(
-    raw: &'a [u8],
-    header: Header,
-    signature: &[ArgumentType],
-    fds: &[OwnedFd],
+    frame: Checked<'a, '_>,
     cursor: &mut usize,
     records: &mut [Argument<OwnedFd>],
 ) -> (Header, &'a [u8])
-    requires passed { Passed (parsing (length records.old) signature.now raw.now fds.now) (length records.old) signature.now raw.now fds.now header }
-    requires few { cursor.old + length fds.now < 2 ^ 64 }
-    ensures answer { Reading (parsing (length records.old) signature.now raw.now fds.now) cursor.old records.old result cursor.new records.new }
-    ensures shows { Shows (parsing (length records.old) signature.now raw.now fds.now) raw.now records.new }
+    requires room { length frame.reader.kinds.now ≤ length records.old }
+    requires few { cursor.old + length frame.reader.fds.now < 2 ^ 64 }
+    ensures header { result.0 ≡ frame.entry.header }
+    ensures tail { result.1.now ≡ frame.entry.tail.now }
+    ensures filled { Filled (left frame.entry.reader) cursor.old records.old cursor.new records.new }
 {
-    let (frame, tail) = raw.split_at(usize::from(header.size));
-    let reader = Reader::new(frame, signature, fds);
-    *cursor += reader.fill(&mut records[..signature.len()]);
+    let Checked {
+        header,
+        reader,
+        tail,
+    } = frame;
+    *cursor += reader.fill(records);
     (header, tail)
 }
 
@@ -98,6 +116,6 @@ pub fn parse_message<'a>(
     ensures gives { GivesFrames (length records.old) signature.now raw.now (drop cursor.old fds.now) }
 {
     let fds = fds_left(fds, *cursor);
-    let header = check_frame(raw, signature, fds, records.len())?;
-    Ok(take_message(raw, header, signature, fds, cursor, records))
+    let frame = check_frame(raw, signature, fds, records.len())?;
+    Ok(take_message(frame, cursor, records))
 }

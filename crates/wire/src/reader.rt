@@ -36,10 +36,10 @@ fn before_zero(bytes: &[u8]) -> Option<&[u8]>
 // What is left to read of a frame: the types of the arguments, the bytes, whose place in the frame is `at`, and the descriptors.
 #[derive(Clone, Copy)]
 pub(crate) struct Reader<'a> {
-    kinds: &'a [ArgumentType],
-    at: usize,
+    pub(crate) kinds: &'a [ArgumentType],
+    pub(crate) at: usize,
     bytes: &'a [u8],
-    fds: &'a [OwnedFd],
+    pub(crate) fds: &'a [OwnedFd],
     ghost inside: { at + length bytes.now < 2 ^ 64 },
 }
 
@@ -137,15 +137,15 @@ impl<'a> Reader<'a> {
         true
     }
 
-    // Fills the records with the arguments that are left, which fit, and says how many descriptors they took.
+    // Fills the first records with the arguments that are left, which fit, and says how many descriptors they took.
     pub(crate) fn fill(mut self, records: &mut [Argument<OwnedFd>]) -> usize
-        requires room { length records.old ≡ length self.kinds.now }
+        requires room { length self.kinds.now ≤ length records.old }
         requires fit { is_some (left self) ≡ true }
-        ensures gives { Gives (left self.entry) self.entry.at result records.new }
+        ensures gives { Gives (left self.entry) self.entry.at result records.old records.new }
         ensures few { result ≤ length self.entry.fds.now }
     {
         let fds = self.fds.len();
-        for record in records {
+        for record in &mut records[..self.kinds.len()] {
             *record = self.argument().unwrap();
         }
         fds - self.fds.len()

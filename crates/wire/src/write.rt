@@ -55,20 +55,6 @@ struct Measured<'m> {
     ghost small: { size ≤ largest },
 }
 
-fn measure<'m>(msg: &Message<'m, RawFd>) -> Result<Measured<'m>, Refusal>
-    ensures size { result_map_both (λ m. m.size) (λ why. why) result ≡ (if good_texts msg.now.text.now msg.now.args.now then (if nat_lt largest (size_of (message_of msg.now)) then Err Oversize else Ok (size_of (message_of msg.now))) else Err BadText) }
-    ensures msg { IfOk result (λ m. m.msg ≡ msg.now) }
-{
-    if !good_texts(msg.args, msg.text) {
-        return Err(Refusal::BadText);
-    }
-    let size = fields_len(msg.args).saturating_add(8);
-    if size > LARGEST {
-        return Err(Refusal::Oversize);
-    }
-    Ok(Measured { msg: *msg, size })
-}
-
 // How many descriptors a message has, if the book can duplicate them all.
 fn check_duplicates(args: &[Argument<RawFd>], book: &Book) -> Result<usize, Refusal>
     ensures { result ≡ unless_failed (dup_failure (files book.now) (numbers - opened (files book.now)) (numbers_in args.now)) (Ok (length (numbers_in args.now))) }
@@ -120,8 +106,8 @@ fn put_argument(free: &mut [u8], argument: &Argument<RawFd>, text: &[u8])
         Argument::Int(n) | Argument::Fixed(n) => put_word(free, n.cast_unsigned()),
         Argument::Uint(n) | Argument::Object(n) | Argument::NewId(n) => put_word(free, *n),
         Argument::NullStr => put_word(free, 0),
-        Argument::Str(t) => put_block(free, &text[t.place..t.place + t.len], &[0]),
-        Argument::Array(t) => put_block(free, &text[t.place..t.place + t.len], &[]),
+        Argument::Str(t) => put_block(free, part(text, *t).unwrap(), &[0]),
+        Argument::Array(t) => put_block(free, part(text, *t).unwrap(), &[]),
         Argument::Fd(_) => {}
     }
 }
@@ -190,12 +176,18 @@ fn check_message<'m>(
     ensures size { result_map_both (λ m. m.size) (λ why. why) result ≡ write_answer (good_texts msg.now.text.now msg.now.args.now) (message_of msg.now) payload_len places_len (files book.now) }
     ensures msg { IfOk result (λ m. m.msg ≡ msg.now) }
 {
-    let measured = measure(msg)?;
+    if !good_texts(msg.args, msg.text) {
+        return Err(Refusal::BadText);
+    }
+    let size = fields_len(msg.args).saturating_add(8);
+    if size > LARGEST {
+        return Err(Refusal::Oversize);
+    }
     let count = check_duplicates(msg.args, book)?;
-    if payload_len < measured.size || places_len < count {
+    if payload_len < size || places_len < count {
         return Err(Refusal::Short);
     }
-    Ok(measured)
+    Ok(Measured { msg: *msg, size })
 }
 
 // Writes the frame of a message first into the payload, and the duplicates of its descriptors first into the places.
