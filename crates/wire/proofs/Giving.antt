@@ -109,31 +109,26 @@ record AllGiven {X : Type 0} (ts : List ArgumentType) (bs : List ℕ) (xs : List
   inside : length (fields vs) ≤ length bs
   taken : xs ≡ descriptors vs ++ drop (length (descriptors vs)) xs
 
+given_more : {X : Type 0} (t : ArgumentType) (ts : List ArgumentType) (bs : List ℕ) (xs : List X) (v : Value X) (us : List (Value X))
+    → Given t bs xs v → length (field v) ≤ length bs → AllGiven ts (drop (length (field v)) bs) (drop (length (carried v)) xs) us → AllGiven (t ∷ ts) bs xs (v ∷ us)
+given_more t ts bs xs v us g w r = record {
+  typed = (g.kinds, g.carries, r.typed);
+  fits = rw (length-append, take-add) (fits_join (field v) (fields us) (take (length (field v)) bs) (take (length (fields us)) (drop (length (field v)) bs)) g.fits r.fits);
+  inside = (let n = length-append (field v) (fields us) in let room = r.inside in let left = length-drop (length (field v)) bs in omega arith);
+  taken =
+      g.taken
+      ∙ ap (λ x. carried v ++ x) r.taken
+      ∙ sym (append_assoc (carried v) (descriptors us) (drop (length (descriptors us)) (drop (length (carried v)) xs)))
+      ∙ ap (λ x. (carried v ++ descriptors us) ++ x) (drop-drop (length (descriptors us)) (length (carried v)) xs ∙ ap (λ k. drop k xs) (sym (length-append (carried v) (descriptors us))));
+}
+
 all_given : {X : Type 0} (ts : List ArgumentType) (bs : List ℕ) (xs : List X) (vs : List (Value X)) → Bytes bs → values ts bs xs ≡ Some vs → AllGiven ts bs xs vs
 all_given [] bs xs vs h e = let q : [] ≡ vs = cc in subst (AllGiven [] bs xs) q (record { typed = tt; fits = tt; inside = omega arith; taken = refl })
 all_given (t ∷ ts) bs xs vs h e =
     let p = then_got (one t bs xs) (λ v. before v (values ts (drop (length (field v)) bs) (drop (length (carried v)) xs))) vs e in
-    let v = p.0 in
     let q = before_got p.0 (values ts (drop (length (field p.0)) bs) (drop (length (carried p.0)) xs)) vs p.2 in
-    let g = given bs xs h t p.0 p.1 in
-    let w = one_within t bs xs p.0 p.1 in
-    let r = all_given ts (drop (length (field p.0)) bs) (drop (length (carried p.0)) xs) q.0 (bytes_drop (length (field p.0)) bs h) q.1 in
-    let n = length-append (field p.0) (fields q.0) in
-    let room = r.inside in
-    let left = length-drop (length (field p.0)) bs in
-    subst (AllGiven (t ∷ ts) bs xs) (sym q.2) (record {
-      typed = (g.kinds, g.carries, r.typed);
-      fits =
-          subst (λ (k : ℕ). Fits (field p.0 ++ fields q.0) (take k bs)) (sym n)
-          (subst (Fits (field p.0 ++ fields q.0)) (sym (take-add (length (field p.0)) (length (fields q.0)) bs))
-          (fits_join (field p.0) (fields q.0) (take (length (field p.0)) bs) (take (length (fields q.0)) (drop (length (field p.0)) bs)) g.fits r.fits));
-      inside = (let a = w.0 in omega arith);
-      taken =
-          g.taken
-          ∙ ap (λ (x : List _). carried p.0 ++ x) r.taken
-          ∙ sym (append_assoc (carried p.0) (descriptors q.0) (drop (length (descriptors q.0)) (drop (length (carried p.0)) xs)))
-          ∙ ap (λ (x : List _). (carried p.0 ++ descriptors q.0) ++ x) (drop-drop (length (descriptors q.0)) (length (carried p.0)) xs ∙ ap (λ (k : ℕ). drop k xs) (sym (length-append (carried p.0) (descriptors q.0))));
-    })
+    subst (AllGiven (t ∷ ts) bs xs) (sym q.2)
+    (given_more t ts bs xs p.0 q.0 (given bs xs h t p.0 p.1) (one_within t bs xs p.0 p.1).0 (all_given ts (drop (length (field p.0)) bs) (drop (length (carried p.0)) xs) q.0 (bytes_drop (length (field p.0)) bs h) q.1))
 
 pub parsed_got : {X : Type 0} (raw : List ℕ) (xs : List X) (o : Option (List (Value X))) (p : Parsed X) → parsed raw xs o ≡ Ok p → (vs : List (Value X)) × (o ≡ Some vs) × (given_as raw xs vs ≡ p)
 parsed_got raw xs None p e = cc
@@ -171,17 +166,7 @@ module _ {X : Type 0} (ts : List ArgumentType) (raw : List ℕ) (xs : List X) (v
       ∙ sym (append_assoc (take 4 raw) (take 4 (drop 4 raw) ++ take (length (fields vs)) body) (drop (length (fields vs)) body ++ drop (size_at raw) raw))
 
   sized : size_at raw ≡ length (take 4 raw ++ (take 4 (drop 4 raw) ++ take (length (fields vs)) body)) + length (drop (length (fields vs)) body)
-  sized =
-      let b = body_length in
-      let i = g.inside in
-      let a₁ = length-append (take 4 raw) (take 4 (drop 4 raw) ++ take (length (fields vs)) body) in
-      let a₂ = length-append (take 4 (drop 4 raw)) (take (length (fields vs)) body) in
-      let t₁ = length-take 4 raw in
-      let t₂ = length-take 4 (drop 4 raw) in
-      let t₃ = length-take (length (fields vs)) body in
-      let d₁ = length-drop 4 raw in
-      let d₂ = length-drop (length (fields vs)) body in
-      omega arith
+  sized = simp (length-append, length-take, length-drop) (omega (arith, g.inside, body_length))
 
   framed : Framed ts raw xs (given_as raw xs vs)
   framed = record {
