@@ -3,8 +3,11 @@ use Rattle.std.proofs.Common.{◌≡◌, ℕ, zero, suc, ◌+◌, ◌-◌, ◌�
 use borrow.Rule.Slice.PartMut.{put_mid}
 use Rattle.std.proofs.lemmas.List.{append_assoc, length-append, length-replicate, replicate-append-replicate, drop_all, take_rest}
 use Rattle.wire.specs.Frame.{overlay, known, word, block, padding}
-use Rattle.wire.specs.Place.{lay}
 use Rattle.wire.proofs.Walk.{length_known}
+
+-- a part of a frame written over bytes from a place on
+abbrev pub lay : ℕ → List (Option ℕ) → List ℕ → List ℕ
+lay at f bs = overlay (replicate at None ++ f) bs
 
 pub length_overlay : (f : List (Option ℕ)) (p : List ℕ) → length (overlay f p) ≡ length p
 length_overlay [] p = refl

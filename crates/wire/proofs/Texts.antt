@@ -10,9 +10,8 @@ use Rattle.wire.specs.Frame.{field, fields}
 use Rattle.wire.specs.Records.{block_length, bytes_of, inside, field_length, fields_length, value_of, carried_by, numbers_in}
 use Rattle.wire.specs.Write.{good_text, good_texts}
 use Rattle.wire.specs.Laws.{AllCarry, Carries}
-use Rattle.wire.specs.Place.{lay}
 use Rattle.wire.proofs.Walk.{length_block}
-use Rattle.wire.proofs.Laying.{lay_append}
+use Rattle.wire.proofs.Laying.{lay, lay_append}
 
 length_inside : (bs : List ℕ) (t : Text) → inside (length bs) t ≡ true → length (bytes_of bs t) ≡ t.len
 length_inside bs t h = let l = leb-true _ _ h in simp (length-take, length-drop) (omega arith)

@@ -8,10 +8,9 @@ use Rattle.protocol.specs.declared.refusal.Refusal.TheVariants.{BadText, Oversiz
 use Rattle.book.specs.Files.{Files, numbers, opened}
 use Rattle.wire.specs.Values.{Message, descriptors}
 use Rattle.wire.specs.Frame.{known, word, fields, frame, overlay, size_of}
-use Rattle.wire.specs.Place.{lay}
 use Rattle.wire.specs.Write.{dup_failure, largest, unless_failed, write_answer}
 use Rattle.wire.proofs.Outcomes.{past, past_not}
-use Rattle.wire.proofs.Laying.{lay_append, length_lay, length_overlay, part_laid}
+use Rattle.wire.proofs.Laying.{lay, lay_append, length_lay, length_overlay, part_laid}
 
 pub duplicable : (o : Option ℕ) (c k : ℕ) → Ok k ≡ unless_failed o (Ok c) → (o ≡ None) × (k ≡ c)
 duplicable None c k e = (refl, cc)

@@ -1,15 +1,12 @@
 -- What `parse_message` answers, and what the cursor of the descriptors and the caller's records hold after it.
-use Rattle.std.specs.Prelude.{◌≡◌, ℕ, ◌+◌, ◌≤◌, List, ◌++◌, map, length, take, drop, Some, None, Ok, Err, Option, Result}
+use Rattle.std.specs.Prelude.{◌≡◌, ℕ, ◌+◌, List, ◌++◌, map, length, take, drop, Some, None, Ok, Err, Option, Result}
 use Rattle.std.specs.Borrow.{Bor}
 use Rattle.protocol.specs.declared.argument.Argument.{Argument}
-use Rattle.protocol.specs.declared.argument.ArgumentType.{ArgumentType}
 use Rattle.protocol.specs.declared.fd.OwnedFd.{OwnedFd}
 use Rattle.protocol.specs.declared.header.Header.{Header}
 use Rattle.protocol.specs.declared.refusal.Refusal.{Refusal}
-use Rattle.wire.specs.declared.reader.Reader.{Reader}
 use Rattle.wire.specs.Values.{Value, descriptors}
-use Rattle.wire.specs.Read.{Parsed, word_at, opcode_at, size_at, parsed, values}
-use Rattle.wire.specs.Reader.{left}
+use Rattle.wire.specs.Read.{Parsed, word_at, opcode_at, size_at}
 use Rattle.wire.specs.Records.{records_of, value_in}
 
 abbrev pub header_at : List ℕ → Header
@@ -36,12 +33,3 @@ Answers p cursor records (Ok r) cursor' records' = Reading p cursor records r cu
 -- each record that was filled shows its value in the frame
 abbrev pub Shows : Result (Parsed OwnedFd) Refusal → List ℕ → List (Argument OwnedFd) → Type 0
 Shows p raw records' = (found : Parsed OwnedFd) → p ≡ Ok found → map (value_in (take found.size raw)) (take (length found.message.args) records') ≡ map Some found.message.args
-
--- every check was passed: what is left to read is the frame's arguments, and they decide the answer
-pub record Passed (p : Result (Parsed OwnedFd) Refusal) (room : ℕ) (ts : List ArgumentType) (raw : List ℕ) (xs : List OwnedFd) (header : Header) (reader : Reader) (tail : List ℕ) : Type 0 where
-  pub is : header ≡ header_at raw
-  pub behind : tail ≡ drop (size_at raw) raw
-  pub args : left reader ≡ values ts (drop 8 (take (size_at raw) raw)) xs
-  pub answer : p ≡ parsed raw xs (left reader)
-  pub room_enough : length reader.kinds.now ≤ room
-  pub fds : reader.fds.now ≡ xs

@@ -5,7 +5,6 @@ pub mod Records
 pub mod View
 pub mod Answers
 pub mod Laws
-pub mod Place
 pub mod ReadBack
 pub mod Reader
 pub mod Worked

@@ -92,6 +92,7 @@ carried_by (arg.NewId n) = []
 carried_by (arg.Array t) = []
 carried_by (arg.Fd x) = x ∷ []
 
+-- the same as an option
 abbrev pub number_of : {X : Type 0} → Argument X → Option X
 number_of a = slice_get (carried_by a) 0
 

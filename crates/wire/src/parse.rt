@@ -1,9 +1,9 @@
 ghost use Rattle.std.specs.Prelude.{◌≡◌, ◌+◌, ◌^◌, ◌<◌, ◌≤◌, true, length, drop, is_some, if◌then◌else◌, Some, None, Err, IfOk, IfErr, nat_le};
 ghost use Rattle.wire.specs.Read.{fd_count};
 ghost use Rattle.wire.specs.Read.{parse as parsing};
-ghost use Rattle.wire.specs.Answers.{Answers, Filled, Passed, Shows, header_at};
+ghost use Rattle.wire.specs.Answers.{Answers, Filled, Shows, header_at};
 ghost use Rattle.wire.specs.Laws.{GivesFrames, ReadsFrames};
-ghost use Rattle.wire.specs.Reader.{left};
+ghost use Rattle.wire.specs.Reader.{Passed, left};
 
 use crate::reader::{Reader, word};
 use protocol::{Argument, ArgumentType, Header, OwnedFd, Refusal};

@@ -6,9 +6,8 @@ use Rattle.protocol.specs.declared.argument.Argument.TheVariants.{Int}
 use Rattle.protocol.specs.declared.fd.RawFd.{RawFd}
 use Rattle.wire.specs.Frame.{fields}
 use Rattle.wire.specs.Laws.{AllCarry}
-use Rattle.wire.specs.Place.{lay}
 use Rattle.wire.specs.Records.{field_length, fields_length, value_of}
-use Rattle.wire.proofs.Laying.{lay_none, part_laid}
+use Rattle.wire.proofs.Laying.{lay, lay_none, part_laid}
 use Rattle.wire.proofs.Texts.{carry_more, good_lengths, good_split, length_more, laid_more}
 use Rattle.wire.proofs.write.Measured.put_arguments.Goals as goal
 use Rattle.wire.proofs.write.Measured.put_arguments.Goals.{In-loop-argument}

@@ -1,7 +1,7 @@
 use Rattle.std.proofs.Common.{◌≡◌, ◌+◌, true, map, drop}
 use Rattle.wire.specs.Frame.{fields, overlay}
 use Rattle.wire.specs.Laws.{AllCarry}
-use Rattle.wire.specs.Place.{lay}
+use Rattle.wire.proofs.Laying.{lay}
 use Rattle.wire.specs.Records.{fields_length, value_of}
 use Rattle.wire.specs.Write.{good_texts}
 use Rattle.wire.proofs.write.Measured.put_arguments.Given as goal
