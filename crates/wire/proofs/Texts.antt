@@ -1,17 +1,17 @@
 -- Records whose text is good take as many bytes as their values.
-use Rattle.std.proofs.Common.{◌≡◌, ℕ, ◌+◌, ◌<◌, true, List, [], ◌∷◌, ◌++◌, map, length, get_or, drop, sym, refl, ap, ◌∙◌, subst, arith}
-use Rattle.std.proofs.lemmas.List.{length-append, length-take, length-drop, drop_more}
+use Rattle.std.proofs.Common.{◌≡◌, ℕ, ◌+◌, ◌<◌, ◌≤◌, true, List, [], ◌∷◌, ◌++◌, map, length, get_or, drop, sym, refl, ap, ◌∙◌, arith}
+use Rattle.std.proofs.lemmas.List.{length-append, length-take, length-drop, drop_more, drop_all}
 use Rattle.std.proofs.lemmas.Bool.{and_parts, leb-true}
 use Rattle.protocol.specs.declared.argument.Argument.{Argument}
 use Rattle.protocol.specs.declared.argument.Argument.TheVariants as arg
 use Rattle.protocol.specs.declared.argument.Text.{Text}
 use Rattle.wire.specs.Values.{descriptors, carried}
-use Rattle.wire.specs.Frame.{field, fields}
+use Rattle.wire.specs.Frame.{field, fields, overlay}
 use Rattle.wire.specs.Records.{block_length, bytes_of, inside, field_length, fields_length, value_of, carried_by, numbers_in}
 use Rattle.wire.specs.Write.{good_text, good_texts}
 use Rattle.wire.specs.Laws.{AllCarry, Carries}
 use Rattle.wire.proofs.Walk.{length_block}
-use Rattle.wire.proofs.Laying.{lay, lay_append}
+use Rattle.wire.proofs.Laying.{lay, lay_append, lay_none}
 
 length_inside : (bs : List ℕ) (t : Text) → inside (length bs) t ≡ true → length (bytes_of bs t) ≡ t.len
 length_inside bs t h = let l = leb-true _ _ h in simp (length-take, length-drop) (omega arith)
@@ -53,21 +53,36 @@ pub descriptors_are : {X : Type 0} (bs : List ℕ) (xs : List (Argument X)) → 
 descriptors_are bs [] = refl
 descriptors_are bs (a ∷ xs) = ap (λ c. c ++ descriptors (map (value_of bs) xs)) (value_carries bs a) ∙ ap (λ d. carried_by a ++ d) (descriptors_are bs xs)
 
--- one record on
-module _ {X : Type 0} (bs : List ℕ) (xs : List (Argument X)) (i : ℕ) (d : Argument X) (h : i < length xs) where
-  pub good_split : good_texts bs (drop i xs) ≡ true → (good_text bs (get_or xs i d) ≡ true) × (good_texts bs (drop (i + 1) xs) ≡ true)
-  good_split g = and_parts _ _ (sym (ap (good_texts bs) (drop_more xs i d h)) ∙ g)
+-- after i records: what is left, laid from here on, gives the whole
+pub record Laid {X : Type 0} (bs : List ℕ) (xs : List (Argument X)) (old : List ℕ) (i at : ℕ) (p : List ℕ) : Type 0 where
+  pub good : good_texts bs (drop i xs) ≡ true
+  pub place : at + fields_length (drop i xs) ≡ fields_length xs
+  pub bytes : lay at (fields (map (value_of bs) (drop i xs))) p ≡ overlay (fields (map (value_of bs) xs)) old
+  pub carry : AllCarry (map (value_of bs) (drop i xs)) → AllCarry (map (value_of bs) xs)
 
-  pub length_more : fields_length (drop i xs) ≡ field_length (get_or xs i d) + fields_length (drop (i + 1) xs)
-  length_more = ap fields_length (drop_more xs i d h)
+module _ {X : Type 0} (bs : List ℕ) (xs : List (Argument X)) (old : List ℕ) where
+  pub laid_none : good_texts bs xs ≡ true → Laid bs xs old 0 0 old
+  laid_none g = record { good = g; place = omega arith; bytes = refl; carry = λ c. c }
 
-  -- writing what is left is writing this one, and then the rest behind it
-  pub laid_more : (at : ℕ) (p : List ℕ) → good_text bs (get_or xs i d) ≡ true
-      → lay at (fields (map (value_of bs) (drop i xs))) p ≡ lay (at + field_length (get_or xs i d)) (fields (map (value_of bs) (drop (i + 1) xs))) (lay at (field (value_of bs (get_or xs i d))) p)
-  laid_more at p g =
-      ap (λ ys. lay at (fields (map (value_of bs) ys)) p) (drop_more xs i d h)
-      ∙ lay_append at (field (value_of bs (get_or xs i d))) (fields (map (value_of bs) (drop (i + 1) xs))) p
-      ∙ ap (λ n. lay (at + n) (fields (map (value_of bs) (drop (i + 1) xs))) (lay at (field (value_of bs (get_or xs i d))) p)) (good_length bs (get_or xs i d) g)
+  module _ (i at : ℕ) (p : List ℕ) (w : Laid bs xs old i at p) where
+    -- the record in hand: its text is good, and its field is there
+    pub laid_here : (d : Argument X) → i < length xs → (good_text bs (get_or xs i d) ≡ true) × (at + (field_length (get_or xs i d) + fields_length (drop (i + 1) xs)) ≡ fields_length xs)
+    laid_here d h = let l = ap fields_length (drop_more xs i d h) in let e = w.place in ((and_parts _ _ (rw (drop_more xs i d h) at w.good)).0, omega arith)
 
-  pub carry_more : Carries (value_of bs (get_or xs i d)) → AllCarry (map (value_of bs) (drop (i + 1) xs)) → AllCarry (map (value_of bs) (drop i xs))
-  carry_more c r = subst (λ ys. AllCarry (map (value_of bs) ys)) (sym (drop_more xs i d h)) (c, r)
+    pub laid_more : (d : Argument X) (n : ℕ) (q : List ℕ) → i < length xs → n ≡ field_length (get_or xs i d) → q ≡ lay at (field (value_of bs (get_or xs i d))) p → Carries (value_of bs (get_or xs i d)) → Laid bs xs old (i + 1) (at + n) q
+    laid_more d n q h en eq c =
+        let g = and_parts _ _ (rw (drop_more xs i d h) at w.good) in
+        let l = (laid_here d h).1 in
+        record {
+          good = g.1;
+          place = omega arith;
+          bytes =
+              ap (lay (at + n) (fields (map (value_of bs) (drop (i + 1) xs)))) eq
+              ∙ ap (λ k. lay (at + k) (fields (map (value_of bs) (drop (i + 1) xs))) (lay at (field (value_of bs (get_or xs i d))) p)) (en ∙ sym (good_length bs (get_or xs i d) g.0))
+              ∙ sym (lay_append at (field (value_of bs (get_or xs i d))) (fields (map (value_of bs) (drop (i + 1) xs))) p)
+              ∙ rw (drop_more xs i d h) at w.bytes;
+          carry = λ r. w.carry (rw (drop_more xs i d h) (c, r));
+        }
+
+    pub laid_all : length xs ≤ i → (p ≡ overlay (fields (map (value_of bs) xs)) old) × AllCarry (map (value_of bs) xs)
+    laid_all h = (sym (lay_none at p) ∙ rw (drop_all i xs h) at w.bytes, w.carry (rw (drop_all i xs h) tt))
