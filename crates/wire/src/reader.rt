@@ -19,6 +19,7 @@ pub(crate) fn word(bytes: &[u8]) -> Option<u32>
 fn block(bytes: &[u8]) -> Option<&[u8]>
     ensures { option_map (λ x. x.now) result ≡ (if whole bytes.now then Some (inner bytes.now) else None) }
 {
+    // A proved cast: there is no `usize::from` of a `u32`.
     let len = word(bytes)? as usize;
     if block_len(len) > bytes.len() {
         return None;

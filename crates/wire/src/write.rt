@@ -123,6 +123,7 @@ impl Measured<'_> {
     {
         let Message { sender, opcode, .. } = self.msg;
         put_word(payload, sender);
+        // A proved cast, as in `put_block`.
         put_word(
             &mut payload[4..],
             (self.size as u32) * 65536 + u32::from(opcode),
