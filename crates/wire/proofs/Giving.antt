@@ -1,22 +1,21 @@
 -- Whatever is read fits the frame of what it gave.
-use Rattle.std.proofs.Common.{◌≡◌, ℕ, ◌+◌, ◌-◌, ◌*◌, ◌^◌, ◌<◌, ◌≤◌, true, ltb, List, [], ◌∷◌, ◌++◌, length, get_or, take, drop, Some, None, Ok, Option, sym, refl, ap, ◌∙◌, subst, inl, inr, div-add-mod', arith, take-add, w32, to_z}
+use Rattle.std.proofs.Common.{◌≡◌, ℕ, ◌+◌, ◌-◌, ◌*◌, ◌^◌, ◌<◌, ◌≤◌, true, List, [], ◌∷◌, ◌++◌, length, get_or, take, drop, Some, Option, sym, refl, ap, ◌∙◌, subst, inl, inr, div-add-mod', arith, take-add, w32, to_z}
 use Rattle.std.proofs.lemmas.List.{append_assoc, length-append, take-append-drop, drop-drop, length-take, length-drop, get_or-drop, get_or-take, nil_from_length, drop-append-le, get_or_past}
 use Rattle.std.proofs.lemmas.Int.{of_z-to_z}
 use Rattle.std.proofs.lemmas.Nat.{le_bytes_4}
 use mir.ValLaws.{to_z-Fits}
-use Rattle.std.proofs.lemmas.Bool.{ltb-false, cases_lt}
+use Rattle.std.proofs.lemmas.Bool.{cases_lt}
 use Rattle.protocol.specs.declared.argument.ArgumentType.{ArgumentType}
 use Rattle.protocol.specs.declared.argument.ArgumentType.TheVariants as type
-use Rattle.protocol.specs.declared.refusal.Refusal.TheVariants.{MissingData, Malformed, MissingFd, Small}
 use Rattle.protocol.specs.Types.{kind}
 use Rattle.wire.specs.Values.{Value, int, uint, fixed, object, new_id, descriptor, carried, descriptors}
 use Rattle.wire.specs.Frame.{Fits, known, word, padding, block, field, fields}
-use Rattle.wire.specs.Read.{Parsed, word_at, number, whole, inner, text, first, one, before, values, fd_count, size_at, opcode_at, parsed}
+use Rattle.wire.specs.Read.{word_at, number, whole, inner, text, first, one, before, values, size_at, opcode_at}
 use Rattle.wire.specs.Laws.{type_of_value, Carries, Typed, Framed, GivesFrames}
 use Rattle.wire.proofs.Fitting.{block_fits, fits_join, known_fits}
-use Rattle.wire.proofs.Parsing.{given_as}
+use Rattle.wire.proofs.Parsing.{given_as, parse_got}
 use Rattle.wire.proofs.Walk.{length_block, then_got, before_got, one_within, number_got, text_got, array_got, whole_fits, length_inner}
-use Rattle.wire.proofs.Outcomes.{passed, past}
+use Rattle.wire.proofs.Outcomes.{passed}
 
 -- each of them is a byte
 abbrev pub Bytes : List ℕ → Type 0
@@ -130,10 +129,6 @@ all_given (t ∷ ts) bs xs vs h e =
     subst (AllGiven (t ∷ ts) bs xs) (sym q.2)
     (given_more t ts bs xs p.0 q.0 (given bs xs h t p.0 p.1) (one_within t bs xs p.0 p.1).0 (all_given ts (drop (length (field p.0)) bs) (drop (length (carried p.0)) xs) q.0 (bytes_drop (length (field p.0)) bs h) q.1))
 
-pub parsed_got : {X : Type 0} (raw : List ℕ) (xs : List X) (o : Option (List (Value X))) (p : Parsed X) → parsed raw xs o ≡ Ok p → (vs : List (Value X)) × (o ≡ Some vs) × (given_as raw xs vs ≡ p)
-parsed_got raw xs None p e = cc
-parsed_got raw xs (Some vs) p e = (vs, refl, cc)
-
 module _ {X : Type 0} (ts : List ArgumentType) (raw : List ℕ) (xs : List X) (vs : List (Value X)) (h : Bytes raw) (l : 8 ≤ length raw) (s : 8 ≤ size_at raw) (w : size_at raw ≤ length raw)
     (g : AllGiven ts (drop 8 (take (size_at raw) raw)) xs vs) where
   abbrev body : List ℕ
@@ -186,12 +181,6 @@ module _ {X : Type 0} (ts : List ArgumentType) (raw : List ℕ) (xs : List X) (v
 
 pub gives_frames : {X : Type 0} (room : ℕ) (ts : List ArgumentType) (raw : List ℕ) (xs : List X) → Bytes raw → GivesFrames room ts raw xs
 gives_frames room ts raw xs h p e =
-    let a = past (ltb (length raw) 8) MissingData _ p e in
-    let b = past (ltb (size_at raw) 8) Malformed _ p a.1 in
-    let c = past (ltb (length raw) (size_at raw)) MissingData _ p b.1 in
-    let d = past (ltb (length xs) (fd_count ts)) MissingFd _ p c.1 in
-    let f = past (ltb room (length ts)) Small _ p d.1 in
-    let v = parsed_got raw xs (values ts (drop 8 (take (size_at raw) raw)) xs) p f.1 in
-    subst (Framed ts raw xs) v.2
-    (framed ts raw xs v.0 h (ltb-false _ _ a.0) (ltb-false _ _ b.0) (ltb-false _ _ c.0)
-    (all_given ts (drop 8 (take (size_at raw) raw)) xs v.0 (bytes_drop 8 (take (size_at raw) raw) (bytes_take (size_at raw) raw h)) v.1))
+    let g = parse_got room ts raw xs p e in
+    subst (Framed ts raw xs) g.is
+    (framed ts raw xs g.args h g.header g.small g.whole (all_given ts (drop 8 (take (size_at raw) raw)) xs g.args (bytes_drop 8 (take (size_at raw) raw) (bytes_take (size_at raw) raw h)) g.read))

@@ -1,21 +1,20 @@
 -- The records of values that were read show these values in the frame.
-use Rattle.std.proofs.Common.{◌≡◌, ℕ, ◌+◌, ◌≤◌, true, List, [], ◌∷◌, ◌++◌, map, length, take, drop, Some, None, Option, Result, sym, refl, ap, ◌∙◌, subst, inl, inr, append-nil, arith, w32, to_z}
+use Rattle.std.proofs.Common.{◌≡◌, ℕ, ◌+◌, ◌≤◌, true, List, [], ◌∷◌, ◌++◌, map, length, take, drop, Some, Option, sym, refl, ap, ◌∙◌, subst, inl, inr, append-nil, arith, w32, to_z}
 use Rattle.std.proofs.lemmas.List.{drop-drop, length-append, length-drop, take_at, take-take}
 use Rattle.std.proofs.lemmas.Bool.{cond-true, le-leb}
 use Rattle.protocol.specs.declared.argument.Argument.{Argument}
 use Rattle.protocol.specs.declared.argument.ArgumentType.{ArgumentType}
 use Rattle.protocol.specs.declared.argument.ArgumentType.TheVariants as type
 use Rattle.protocol.specs.declared.fd.OwnedFd.{OwnedFd}
-use Rattle.protocol.specs.declared.refusal.Refusal.{Refusal}
 use Rattle.wire.specs.Values.{Value, int, uint, fixed, string, object, new_id, array, descriptor, carried}
 use Rattle.wire.specs.Frame.{field}
-use Rattle.wire.specs.Read.{Parsed, word_at, number, whole, inner, text, one, before, values, size_at, parsed}
+use Rattle.wire.specs.Read.{Parsed, word_at, number, whole, inner, text, one, before, values, size_at, parse}
 use Rattle.wire.specs.Records.{bytes_of, text_at, block_length, record_of, records_of, value_in}
 use Rattle.wire.specs.Answers.{Filled, Shows}
 use Rattle.wire.proofs.Walk.{length_records}
 use Rattle.wire.proofs.Walk.{then_got, before_got, number_got, text_got, array_got, whole_fits, length_inner}
 use Rattle.wire.proofs.Outcomes.{passed}
-use Rattle.wire.proofs.Parsing.{given_as}
+use Rattle.wire.proofs.Parsing.{parse_got}
 
 -- the first bytes behind the length at a place
 module _ (f : List ℕ) (at : ℕ) (w : whole (drop at f) ≡ true) where
@@ -74,12 +73,12 @@ shown_all {X} (t ∷ ts) f at xs vs e =
     (ap (λ o. o ∷ map (value_in f) (records_of (at + length (field p.0)) q.0)) (shown_one t f at xs p.0 p.1) ∙ ap (λ os. Some p.0 ∷ os) r)
 
 -- the records that were filled
-pub shows : (ts : List ArgumentType) (o : Option (List (Value OwnedFd))) (raw : List ℕ) (xs : List OwnedFd) (p : Result (Parsed OwnedFd) Refusal) (cursor cursor' : ℕ) (rs rs' : List (Argument OwnedFd))
-    → p ≡ parsed raw xs o → values ts (drop 8 (take (size_at raw) raw)) xs ≡ o → Filled o cursor rs cursor' rs' → Shows p raw rs'
-shows ts None raw xs p cursor cursor' rs rs' e d f found q = absurd f
-shows ts (Some vs) raw xs p cursor cursor' rs rs' e d f found q =
-    let same : given_as raw xs vs ≡ found = (let a = sym e ∙ q in cc) in
-    subst (λ (g : Parsed OwnedFd). map (value_in (take g.size raw)) (take (length g.message.args) rs') ≡ map Some g.message.args) same
-    (ap (λ (r : List (Argument OwnedFd)). map (value_in (take (size_at raw) raw)) (take (length vs) r)) f.1
-    ∙ ap (map (value_in (take (size_at raw) raw))) (take_at (records_of 8 vs) (drop (length vs) rs) (length vs) (length_records 8 vs))
-    ∙ shown_all ts (take (size_at raw) raw) 8 xs vs d)
+pub shows : (room : ℕ) (ts : List ArgumentType) (raw : List ℕ) (xs : List OwnedFd) (cursor cursor' : ℕ) (rs rs' : List (Argument OwnedFd))
+    → Filled (values ts (drop 8 (take (size_at raw) raw)) xs) cursor rs cursor' rs' → Shows (parse room ts raw xs) raw rs'
+shows room ts raw xs cursor cursor' rs rs' f found q =
+    let g = parse_got room ts raw xs found q in
+    let filled = subst (λ (o : Option (List (Value OwnedFd))). Filled o cursor rs cursor' rs') g.read f in
+    subst (λ (p : Parsed OwnedFd). map (value_in (take p.size raw)) (take (length p.message.args) rs') ≡ map Some p.message.args) g.is
+    (ap (λ (r : List (Argument OwnedFd)). map (value_in (take (size_at raw) raw)) (take (length g.args) r)) filled.1
+    ∙ ap (map (value_in (take (size_at raw) raw))) (take_at (records_of 8 g.args) (drop (length g.args) rs) (length g.args) (length_records 8 g.args))
+    ∙ shown_all ts (take (size_at raw) raw) 8 xs g.args g.read)

@@ -1,5 +1,4 @@
-use Rattle.std.proofs.Common.{drop, sym}
-use Rattle.wire.specs.Reader.{left}
+use Rattle.std.proofs.Common.{length, drop}
 use Rattle.wire.proofs.Giving.{gives_frames}
 use Rattle.wire.proofs.Reading.{reads_frames}
 use Rattle.wire.proofs.Showing.{shows}
@@ -14,7 +13,7 @@ returns-in_err-frame-clause-gives c = gives_frames _ _ _ _ (λ k. (c.type_inv.ra
 pub returns-clause-shows : goal.returns-clause-shows
 returns-clause-shows c =
     let p = rw c.fds_left-fds.ensures at c.in_ok-frame.ensures.ok in
-    shows c.args.signature.now (left c.in_ok-frame.frame.reader) c.args.raw.now (drop c.args.cursor.now c.args.fds.now) _ c.args.cursor.now _ c.args.records.now _ p.answer (sym p.args) c.take_message.ensures.filled
+    shows (length c.args.records.now) c.args.signature.now c.args.raw.now (drop c.args.cursor.now c.args.fds.now) c.args.cursor.now _ c.args.records.now _ (rw p.args at c.take_message.ensures.filled)
 
 pub returns-clause-reads : goal.returns-clause-reads
 returns-clause-reads c = reads_frames _ _ _ _
