@@ -1,9 +1,9 @@
 ghost use Rattle.std.specs.Prelude.{◌≡◌, ◌+◌, ◌≤◌};
 ghost use Rattle.quicklook.specs.Captions.{parts_of, word_parts, block_parts, covered};
-ghost use Rattle.wire.specs.Frame.{padding};
 ghost use Rattle.wire.specs.Records.{field_length};
 
 use protocol::Argument;
+use wire::padding_len;
 
 // How many bytes of a field each caption covers, in the order in which they lie in a frame.
 #[derive(Clone, Copy)]
@@ -14,14 +14,6 @@ pub(crate) struct Parts {
     // a string's final 0
     pub(crate) end: usize,
     pub(crate) padding: usize,
-}
-
-// What `len` bytes and `more` lack to a multiple of 4.
-fn padding_len(len: usize, more: usize) -> usize
-    requires { more ≤ 1 }
-    ensures { result ≡ padding (len + more) }
-{
-    (4 - (len % 4 + more) % 4) % 4
 }
 
 // So many bytes of a number.
@@ -45,7 +37,8 @@ fn block_parts(len: usize, end: usize) -> Parts
         word: 4,
         bytes: len,
         end,
-        padding: padding_len(len, end),
+        // only the rest counts, and with it the sum fits
+        padding: padding_len(len % 4 + end),
     }
 }
 

@@ -8,7 +8,7 @@ ghost use Rattle.quicklook.specs.Pictures.{first};
 use crate::draft::{Draft, Exposure, draft_of};
 use crate::fault::Fault;
 use crate::show::{Mark, Printer, print_frame};
-use book::Book;
+use book::{Book, NUMBERS};
 use protocol::{Argument, OwnedFd, RawFd, check_for_signature};
 use signature::{LetterSource, Row, Signature, SignatureSource};
 use wire::{parse_message, write_to_buffers};
@@ -21,9 +21,6 @@ const SHOW: u16 = 2;
 const LETTERS: &[u8; 5] = b"ussah";
 
 const NAMES: [&str; 5] = ["frame number", "filter", "label", "thumbnail", "picture"];
-
-// How many numbers a descriptor book has.
-const NUMBERS: usize = 1024;
 
 // A payload is full of this byte at first: where a frame has it as padding, nothing was written.
 const FILL: u8 = 0xa5;

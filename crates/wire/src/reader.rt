@@ -95,6 +95,7 @@ impl<'a> Reader<'a> {
     }
 
     // The next argument, of a type.
+    #[inline(always)]
     fn peek(&self, kind: ArgumentType) -> Option<Argument<OwnedFd>>
         ensures { result ≡ option_map (record_of self.now.at) (one kind self.now.bytes.now self.now.fds.now) }
     {
@@ -110,7 +111,8 @@ impl<'a> Reader<'a> {
         }
     }
 
-    // Reads the next argument, and moves on behind it.
+    // Reads the next argument, and moves on behind it. Inlined, so that the reader of a loop stays in registers.
+    #[inline(always)]
     fn argument(&mut self) -> Option<Argument<OwnedFd>>
         ensures { Took self.old result self.new }
     {
