@@ -1,6 +1,9 @@
 -- Laws of cells that are made of a row of bytes, a row of counts and a row of duplicates.
 use Rattle.std.proofs.Common.{◌≡◌, ℕ, zero, suc, ◌+◌, ◌-◌, ◌<◌, ◌≤◌, List, [], ◌∷◌, ◌++◌, length, get_or, take, drop, replicate, Some, sum, sym, refl, ap, ◌∙◌, arith, take-add}
 use Rattle.std.proofs.lemmas.List.{take_all, take-append-le, drop-append-le, drop-drop, length-take-le, length-drop}
+use Rattle.std.proofs.lemmas.Option.{none-some}
+use Rattle.std.specs.List.{slice_get}
+use Rattle.std.specs.Option.{option_map}
 use Rattle.protocol.specs.declared.fd.OwnedFd.{OwnedFd}
 use Rattle.line.specs.Line.{cells_of, bytes_of, fds_of}
 use Rattle.line.specs.Counted.{fd_counts, cells_from}
@@ -71,14 +74,15 @@ from_send (b ∷ bs) fds h =
     ∙ ap (λ y. record { byte = b; fds = y } ∷ cells_from bs (replicate (length bs) 0) (drop (length fds) fds)) (take_all (length fds) fds (omega arith))
     ∙ ap (λ y. record { byte = b; fds = fds } ∷ y) (from_plain bs (drop (length fds) fds))
 
-pub seen_from : (bs ks : List ℕ) (fs : List OwnedFd) (place : ℕ) → length ks ≡ length bs → sum ks ≡ length fs → place < length bs → Some (view (get_or bs place 0) (get_or ks place 0)) ≡ seen_at (cells_from bs ks fs) place
-seen_from [] ks fs place l t h = absurd (omega arith)
-seen_from (b ∷ bs) [] fs place l t h = absurd (let z : 0 ≡ suc (length bs) = l in omega arith)
-seen_from (b ∷ bs) (k ∷ ks) fs zero l t h = ap (λ y. Some (view b y)) (sym (length-take-le k fs (let whole : k + sum ks ≡ length fs = sym (sum_cons k ks) ∙ t in omega arith)))
-seen_from (b ∷ bs) (k ∷ ks) fs (suc place) l t h =
+pub seen_from : (bs ks : List ℕ) (fs : List OwnedFd) (place b : ℕ) → length ks ≡ length bs → sum ks ≡ length fs → slice_get bs place ≡ Some b → Some (view b (get_or ks place 0)) ≡ seen_at (cells_from bs ks fs) place
+seen_from [] ks fs place b l t e = absurd (none-some b e)
+seen_from (x ∷ bs) [] fs place b l t e = absurd (let z : 0 ≡ suc (length bs) = l in omega arith)
+seen_from (x ∷ bs) (k ∷ ks) fs zero b l t e =
+    ap (option_map (λ y. view y k)) (sym e) ∙ ap (λ y. Some (view x y)) (sym (length-take-le k fs (let whole : k + sum ks ≡ length fs = sym (sum_cons k ks) ∙ t in omega arith)))
+seen_from (x ∷ bs) (k ∷ ks) fs (suc place) b l t e =
     let whole : k + sum ks ≡ length fs = sym (sum_cons k ks) ∙ t in
     let rest : sum ks ≡ length (drop k fs) = (let z : sum ks ≡ length fs - k = omega arith in z) ∙ sym (length-drop k fs) in
-    seen_from bs ks (drop k fs) place (same_length _ _ l) rest (let z : suc place < suc (length bs) = h in omega arith)
+    seen_from bs ks (drop k fs) place b (same_length _ _ l) rest e
 
 pub fds_from : (bs ks : List ℕ) (fs : List OwnedFd) → length ks ≡ length bs → sum ks ≡ length fs → fds_of (cells_from bs ks fs) ≡ fs
 fds_from bs ks fs l t =

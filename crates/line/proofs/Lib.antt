@@ -1,5 +1,4 @@
 mod Counting
-mod Holding
 mod Marking
 mod Most
 mod Parcels

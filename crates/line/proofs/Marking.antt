@@ -1,12 +1,13 @@
 -- Laws of marks: the counts that they stand for, and what is left when some are gone.
-use Rattle.std.proofs.Common.{◌≡◌, ℕ, zero, suc, ◌+◌, ◌-◌, ◌<◌, ◌≤◌, min, Bool, true, ◌&&◌, ltb, leb, ◌⊎◌, List, [], ◌∷◌, ◌++◌, length, get_or, take, drop, replicate, sum, sym, refl, ap, ◌∙◌, ⊎_elim, add_assoc, arith, take-add}
-use Rattle.std.proofs.lemmas.List.{append_assoc, drop-append-le, take-append-le, drop_at, take_at, drop-drop, drop_more, drop_all, drop-replicate, take-replicate, length-append, length-replicate, length-drop, replicate-append-replicate, get_or_append_left, get_or-append_right, get_or-replicate, get_or_past, get_or_at}
-use Rattle.std.proofs.lemmas.Bool.{and_parts, and_from, ltb-true, lt-ltb, le-leb, cases_lt}
-use Rattle.line.specs.Marks.{spread, counts, carrying, plain, Wholly}
+use Rattle.std.proofs.Common.{◌≡◌, ℕ, zero, suc, ◌+◌, ◌-◌, ◌<◌, ◌≤◌, min, Bool, true, ◌&&◌, ltb, leb, ◌⊎◌, List, [], ◌∷◌, ◌++◌, length, get_or, take, drop, replicate, Some, sum, sym, refl, ap, ◌∙◌, ⊎_elim, add_assoc, arith, subst, take-add}
+use Rattle.std.proofs.lemmas.List.{append_assoc, drop-append-le, take-append-le, drop_at, take_at, drop-drop, drop_more, drop-replicate, take-replicate, length-append, length-replicate, length-drop, replicate-append-replicate, get_or_append_left, get_or-append_right, get_or-replicate, get_or_past, get_or_at}
+use Rattle.std.proofs.lemmas.Option.{slice_get_within, get_or_from_slice_get}
+use Rattle.std.specs.List.{slice_get}
+use Rattle.std.proofs.lemmas.Bool.{and_parts, and_from, ltb-true, leb-true, lt-ltb, le-leb, cases_lt}
+use Rattle.line.specs.Marks.{spread, counts, carrying, plain, Taken}
 use Rattle.line.specs.Counted.{most}
 use Rattle.line.specs.declared.marks.Mark.{Mark}
-use Rattle.line.specs.declared.marks.Whole.{Whole}
-use Rattle.line.proofs.Most.{sum_cons, sum_append, sum_none, most_pass, most_stop, most_tail}
+use Rattle.line.proofs.Most.{sum_cons, sum_append, sum_none, most_pass, most_stop, most_tail, some_first}
 
 -- more bytes behind the last mark, or a mark more
 pub counts_more : (ms : List Mark) (tail n : ℕ) → counts ms (tail + n) ≡ counts ms tail ++ replicate n 0
@@ -65,9 +66,6 @@ drop_gap n m ms tail h =
     ∙ sym (drop-append-le n (replicate m.gap 0) (m.fds ∷ counts ms tail) l)
     ∙ ap (drop n) (sym (counts_cons m ms tail))
 
-pub length_counts : (ms : List Mark) (tail : ℕ) → length (counts ms tail) ≡ length (spread ms) + tail
-length_counts ms tail = length-append (spread ms) (replicate tail 0) ∙ ap (λ y. length (spread ms) + y) (length-replicate tail 0)
-
 -- every mark carries a duplicate, and no more than d
 abbrev good : ℕ → Mark → Bool
 good d m = ltb 0 m.fds && leb m.fds d
@@ -77,11 +75,6 @@ carrying_push d [] m c h l = and_from (good d m) true (and_from (ltb 0 m.fds) (l
 carrying_push d (x ∷ ms) m c h l =
     let both = and_parts (good d x) (carrying d ms) c in
     and_from (good d x) (carrying d (ms ++ m ∷ [])) both.0 (carrying_push d ms m both.1 h l)
-
-pub carrying_drop : (d n : ℕ) (ms : List Mark) → carrying d ms ≡ true → carrying d (drop n ms) ≡ true
-carrying_drop d zero ms c = c
-carrying_drop d (suc n) [] c = refl
-carrying_drop d (suc n) (m ∷ ms) c = carrying_drop d n ms (and_parts (good d m) (carrying d ms) c).1
 
 pub carrying_length : (d : ℕ) (ms : List Mark) (tail : ℕ) → carrying d ms ≡ true → length ms ≤ sum (counts ms tail)
 carrying_length d [] tail c = omega arith
@@ -94,81 +87,98 @@ carrying_length d (m ∷ ms) tail c =
     let l : length (m ∷ ms) ≡ suc (length ms) = refl in
     omega arith
 
-pub next_mark : (ms : List Mark) (i : ℕ) (m : Mark) → i < length ms → m ≡ get_or ms i m → drop i ms ≡ m ∷ drop (i + 1) ms
-next_mark ms i m h e = drop_more ms i m h ∙ ap (λ y. y ∷ drop (i + 1) ms) (sym e)
+pub plain_inside : (ms : List Mark) (tail : ℕ) → plain ms tail ≤ length (counts ms tail)
+plain_inside [] tail = omega (arith, length-replicate {A = ℕ} tail 0)
+plain_inside (m ∷ ms) tail =
+    omega (arith, ap length (counts_cons m ms tail) ∙ length-append (replicate m.gap 0) (m.fds ∷ counts ms tail), length-replicate {A = ℕ} m.gap 0)
 
--- the marks before i are given whole
-pub record Passing (d asked : ℕ) (ms : List Mark) (tail i bytes fds : ℕ) : Type 0 where
+-- the first mark, if there is one
+pub first_mark : (ms : List Mark) (m : Mark) → slice_get ms 0 ≡ Some m → ms ≡ m ∷ drop 1 ms
+first_mark ms m e = drop_more ms 0 m (slice_get_within ms 0 m e) ∙ ap (λ y. y ∷ drop 1 ms) (get_or_from_slice_get ms 0 m m e)
+
+pub no_mark : (ms : List Mark) → ((m : Mark) → slice_get ms 0 ≡ Some m → ⊥) → ms ≡ []
+no_mark [] h = refl
+no_mark (m ∷ ms) h = absurd (h m refl)
+
+-- what was passed so far: so many bytes and duplicates of the counts, so that these marks and the tail are left
+pub record Passing (d asked : ℕ) (all : List ℕ) (ms : List Mark) (tail bytes fds : ℕ) : Type 0 where
   pub wanted : bytes ≤ asked
-  pub there : bytes ≤ length (counts ms tail)
+  pub there : bytes ≤ length all
   pub few : fds ≤ d
-  pub carried : fds ≡ sum (take bytes (counts ms tail))
-  pub rest : drop bytes (counts ms tail) ≡ counts (drop i ms) tail
-  pub most : most d asked (counts ms tail) ≡ bytes + most (d - fds) (asked - bytes) (drop bytes (counts ms tail))
+  pub carried : fds ≡ sum (take bytes all)
+  pub carrying : carrying d ms ≡ true
+  pub rest : counts ms tail ≡ drop bytes all
+  pub most : most d asked all ≡ bytes + most (d - fds) (asked - bytes) (counts ms tail)
 
-module _ (d asked : ℕ) (ms : List Mark) (tail : ℕ) where
-  module _ (i bytes fds : ℕ) (p : Passing d asked ms tail i bytes fds) where
-    -- where only plain bytes of what is left are given
-    wholly : (left : List Mark) → i ≤ length ms → drop i ms ≡ left → most (d - fds) (asked - bytes) (counts left tail) ≡ min (asked - bytes) (plain left tail)
-        → Wholly d asked ms tail (record { marks = i; bytes = bytes; fds = fds })
-    wholly left l is e = record {
-      wanted = p.wanted;
-      there = p.there;
-      marks = l;
+module _ (d asked : ℕ) (all : List ℕ) (tail bytes fds : ℕ) where
+  -- a whole mark is passed
+  pub passing_more : (m : Mark) (ms : List Mark) → Passing d asked all (m ∷ ms) tail bytes fds → m.gap < asked - bytes → m.fds ≤ d - fds → Passing d asked all ms tail (bytes + (m.gap + 1)) (fds + m.fds)
+  passing_more m ms p g k =
+      let left : drop (bytes + (m.gap + 1)) all ≡ counts ms tail =
+      sym (drop-drop (m.gap + 1) bytes all) ∙ ap (drop (m.gap + 1)) (sym p.rest) ∙ counts_pass m ms tail in
+      let long : length all - bytes ≡ m.gap + 1 + length (counts ms tail) =
+      sym (length-drop bytes all) ∙ ap length (sym p.rest ∙ counts_parts m ms tail) ∙ length-append (replicate m.gap 0 ++ (m.fds ∷ [])) (counts ms tail)
+      ∙ ap (λ y. y + length (counts ms tail)) (length_gap m) in
+      let less : d - fds - m.fds ≡ d - (fds + m.fds) = omega arith in
+      let b : asked - bytes - (m.gap + 1) ≡ asked - (bytes + (m.gap + 1)) = omega arith in
+      record {
+        wanted = omega (arith, p.wanted);
+        there = omega (arith, p.there);
+        few = omega (arith, p.few);
+        carried =
+            ap (λ y. y + m.fds) p.carried
+            ∙ ap (λ y. sum (take bytes all) + y) (sym (ap (λ y. sum (take (m.gap + 1) y)) (sym p.rest) ∙ sum_pass m ms tail))
+            ∙ sym (sum_append (take bytes all) (take (m.gap + 1) (drop bytes all)))
+            ∙ ap sum (sym (take-add bytes (m.gap + 1) all));
+        carrying = (and_parts (good d m) (carrying d ms) p.carrying).1;
+        rest = sym left;
+        most =
+            p.most
+            ∙ ap (λ y. bytes + most (d - fds) (asked - bytes) y) (counts_cons m ms tail)
+            ∙ ap (λ y. bytes + y) (most_pass m.gap (d - fds) (asked - bytes) m.fds (counts ms tail) g k)
+            ∙ sym (add_assoc bytes (m.gap + 1) (most (d - fds - m.fds) (asked - bytes - (m.gap + 1)) (counts ms tail)))
+            ∙ ap (λ y. bytes + (m.gap + 1) + most y (asked - bytes - (m.gap + 1)) (counts ms tail)) less
+            ∙ ap (λ y. bytes + (m.gap + 1) + most (d - (fds + m.fds)) y (counts ms tail)) b;
+      }
+
+  -- what is taken: the marks that were passed, and so many of the plain bytes that come next
+  module _ (ms : List Mark) (p : Passing d asked all ms tail bytes fds) (r : ℕ) (c : r ≡ min (asked - bytes) (plain ms tail)) where
+    taken_fds : fds ≡ sum (take (bytes + r) all)
+    taken_fds =
+        let none : sum (take r (drop bytes all)) ≡ 0 = ap (λ y. sum (take r y)) (sym p.rest) ∙ sum_plain r ms tail (omega arith) in
+        p.carried
+        ∙ (let z : sum (take bytes all) ≡ sum (take bytes all) + sum (take r (drop bytes all)) = omega arith in z)
+        ∙ sym (sum_append (take bytes all) (take r (drop bytes all)))
+        ∙ ap sum (sym (take-add bytes r all))
+
+    taken_there : bytes + r ≤ length all
+    taken_there =
+        let long = sym (length-drop bytes all) ∙ ap length (sym p.rest) in
+        omega (arith, p.there, plain_inside ms tail)
+
+    whole : most (d - fds) (asked - bytes) (counts ms tail) ≡ min (asked - bytes) (plain ms tail) → bytes + r ≡ most d asked all
+    whole e = sym (p.most ∙ ap (λ y. bytes + y) (e ∙ sym c))
+
+    pub taken : (0 < asked → 0 < length all → 0 < most d asked all) → most (d - fds) (asked - bytes) (counts ms tail) ≡ min (asked - bytes) (plain ms tail) → (left : List ℕ) → left ≡ drop r (counts ms tail) → Taken d asked all (record { bytes = bytes + r; fds = fds }) left
+    taken s e left is = record {
+      bytes = whole e;
+      some = λ h l. omega (arith, s h l, whole e);
+      fds = taken_fds;
       few = p.few;
-      fds = p.carried;
-      rest = p.rest;
-      most =
-          p.most
-          ∙ ap (λ y. bytes + most (d - fds) (asked - bytes) y) (p.rest ∙ ap (λ y. counts y tail) is)
-          ∙ ap (λ y. bytes + y) e
-          ∙ ap (λ y. bytes + min (asked - bytes) (plain y tail)) (sym is);
+      wanted = omega (arith, p.wanted);
+      there = taken_there;
+      after = is ∙ ap (drop r) p.rest ∙ drop-drop r bytes all;
     }
 
-    pub passing_end : i ≡ length ms → Wholly d asked ms tail (record { marks = i; bytes = bytes; fds = fds })
-    passing_end h = wholly [] (omega arith) (drop_all i ms (omega arith)) (most_tail tail (d - fds) (asked - bytes))
+pub stop_most : (d b : ℕ) (m : Mark) (ms : List Mark) (tail : ℕ) → (b ≤ m.gap) ⊎ (d < m.fds) → most d b (counts (m ∷ ms) tail) ≡ min b m.gap
+stop_most d b m ms tail s = ap (most d b) (counts_cons m ms tail) ∙ most_stop m.gap d b m.fds (counts ms tail) s
 
-    module _ (m : Mark) (h : i < length ms) (e : m ≡ get_or ms i m) where
-      next : drop i ms ≡ m ∷ drop (i + 1) ms
-      next = next_mark ms i m h e
-
-      here : drop bytes (counts ms tail) ≡ counts (m ∷ drop (i + 1) ms) tail
-      here = p.rest ∙ ap (λ y. counts y tail) next
-
-      pub passing_stop : (asked - bytes ≤ m.gap) ⊎ (d - fds < m.fds) → Wholly d asked ms tail (record { marks = i; bytes = bytes; fds = fds })
-      passing_stop s =
-          wholly (m ∷ drop (i + 1) ms) (omega arith) next
-          (ap (most (d - fds) (asked - bytes)) (counts_cons m (drop (i + 1) ms) tail) ∙ most_stop m.gap (d - fds) (asked - bytes) m.fds (counts (drop (i + 1) ms) tail) s)
-
-      pub passing_more : m.gap < asked - bytes → m.fds ≤ d - fds → Passing d asked ms tail (i + 1) (bytes + (m.gap + 1)) (fds + m.fds)
-      passing_more g k =
-          let K : List ℕ = counts ms tail in
-          let left : drop (bytes + (m.gap + 1)) K ≡ counts (drop (i + 1) ms) tail =
-          sym (drop-drop (m.gap + 1) bytes K) ∙ ap (drop (m.gap + 1)) here ∙ counts_pass m (drop (i + 1) ms) tail in
-          let long : length K - bytes ≡ m.gap + 1 + length (counts (drop (i + 1) ms) tail) =
-          sym (length-drop bytes K) ∙ ap length (here ∙ counts_parts m (drop (i + 1) ms) tail) ∙ length-append (replicate m.gap 0 ++ (m.fds ∷ [])) (counts (drop (i + 1) ms) tail)
-          ∙ ap (λ y. y + length (counts (drop (i + 1) ms) tail)) (length_gap m) in
-          let less : d - fds - m.fds ≡ d - (fds + m.fds) = omega arith in
-          let b : asked - bytes - (m.gap + 1) ≡ asked - (bytes + (m.gap + 1)) = omega arith in
-          record {
-            wanted = omega (arith, p.wanted);
-            there = omega (arith, p.there);
-            few = omega (arith, p.few);
-            carried =
-                ap (λ y. y + m.fds) p.carried
-                ∙ ap (λ y. sum (take bytes K) + y) (sym (ap (λ y. sum (take (m.gap + 1) y)) here ∙ sum_pass m (drop (i + 1) ms) tail))
-                ∙ sym (sum_append (take bytes K) (take (m.gap + 1) (drop bytes K)))
-                ∙ ap sum (sym (take-add bytes (m.gap + 1) K));
-            rest = left;
-            most =
-                p.most
-                ∙ ap (λ y. bytes + most (d - fds) (asked - bytes) y) (here ∙ counts_cons m (drop (i + 1) ms) tail)
-                ∙ ap (λ y. bytes + y) (most_pass m.gap (d - fds) (asked - bytes) m.fds (counts (drop (i + 1) ms) tail) g k)
-                ∙ sym (add_assoc bytes (m.gap + 1) (most (d - fds - m.fds) (asked - bytes - (m.gap + 1)) (counts (drop (i + 1) ms) tail)))
-                ∙ ap (λ y. bytes + (m.gap + 1) + most y (asked - bytes - (m.gap + 1)) (counts (drop (i + 1) ms) tail)) less
-                ∙ ap (λ y. bytes + (m.gap + 1) + most (d - (fds + m.fds)) y (counts (drop (i + 1) ms) tail)) b
-                ∙ ap (λ y. bytes + (m.gap + 1) + most (d - (fds + m.fds)) (asked - (bytes + (m.gap + 1))) y) (sym left);
-          }
+-- where cells wait, one at least is given
+pub some_given : (d asked : ℕ) (ms : List Mark) (tail : ℕ) → carrying d ms ≡ true → 0 < asked → 0 < length (counts ms tail) → 0 < most d asked (counts ms tail)
+some_given d asked [] tail c h l = omega (arith, most_tail tail d asked, length-replicate {A = ℕ} tail 0)
+some_given d asked (m ∷ ms) tail c h l =
+    let few : m.fds ≤ d = leb-true m.fds d (and_parts (ltb 0 m.fds) (leb m.fds d) (and_parts (good d m) (carrying d ms) c).0).1 in
+    subst (λ y. 0 < most d asked y) (sym (counts_cons m ms tail)) (some_first m.gap d asked m.fds (counts ms tail) h few)
 
 -- what the byte at a place carries
 module _ (m : Mark) (ms : List Mark) (tail place : ℕ) where
@@ -202,36 +212,3 @@ zero_front (suc n) f h e = let z : n ≡ suc n - 1 = omega arith in ap (λ y. 0 
 -- new bytes that carry nothing
 pub noted_plain : (ms : List Mark) (tail n f : ℕ) → 0 < n → f ≡ 0 → counts ms (tail + n) ≡ counts ms tail ++ (f ∷ replicate (n - 1) 0)
 noted_plain ms tail n f h e = counts_more ms tail n ∙ ap (λ y. counts ms tail ++ y) (zero_front n f h e)
-
-pub plain_inside : (ms : List Mark) (tail : ℕ) → plain ms tail ≤ length (counts ms tail)
-plain_inside [] tail = omega (arith, length-replicate {A = ℕ} tail 0)
-plain_inside (m ∷ ms) tail =
-    omega (arith, ap length (counts_cons m ms tail) ∙ length-append (replicate m.gap 0) (m.fds ∷ counts ms tail), length-replicate {A = ℕ} m.gap 0)
-
--- whole marks, and then plain bytes
-module _ (d asked : ℕ) (ms : List Mark) (tail : ℕ) (w : Whole) (all : Wholly d asked ms tail w) (left : List Mark) (e : left ≡ drop w.marks ms) (r : ℕ) (c : r ≡ min (asked - w.bytes) (plain left tail)) where
-  behind : drop w.bytes (counts ms tail) ≡ counts left tail
-  behind = all.rest ∙ ap (λ y. counts y tail) (sym e)
-
-  taken_most : w.bytes + r ≡ most d asked (counts ms tail)
-  taken_most = ap (λ y. w.bytes + y) c ∙ ap (λ y. w.bytes + min (asked - w.bytes) (plain y tail)) e ∙ sym all.most
-
-  taken_fds : w.fds ≡ sum (take (w.bytes + r) (counts ms tail))
-  taken_fds =
-      let none : sum (take r (drop w.bytes (counts ms tail))) ≡ 0 = ap (λ y. sum (take r y)) behind ∙ sum_plain r left tail (omega arith) in
-      all.fds
-      ∙ (let z : sum (take w.bytes (counts ms tail)) ≡ sum (take w.bytes (counts ms tail)) + sum (take r (drop w.bytes (counts ms tail))) = omega arith in z)
-      ∙ sym (sum_append (take w.bytes (counts ms tail)) (take r (drop w.bytes (counts ms tail))))
-      ∙ ap sum (sym (take-add w.bytes r (counts ms tail)))
-
-  taken_within : (w.bytes + r ≤ asked) × (w.bytes + r ≤ length (counts ms tail))
-  taken_within =
-      let long = sym (length-drop w.bytes (counts ms tail)) ∙ ap length behind in
-      (omega (arith, all.wanted), omega (arith, all.there, plain_inside left tail))
-
-  taken_rest : (after : List ℕ) → after ≡ drop r (counts left tail) → after ≡ drop (w.bytes + r) (counts ms tail)
-  taken_rest after is = is ∙ ap (drop r) (sym behind) ∙ drop-drop r w.bytes (counts ms tail)
-
-  pub taken : (after : List ℕ) → after ≡ drop r (counts left tail)
-      → (w.bytes + r ≡ most d asked (counts ms tail)) × (w.fds ≡ sum (take (w.bytes + r) (counts ms tail))) × ((w.bytes + r ≤ asked) × (w.bytes + r ≤ length (counts ms tail))) × (after ≡ drop (w.bytes + r) (counts ms tail))
-  taken after is = (taken_most, taken_fds, taken_within, taken_rest after is)

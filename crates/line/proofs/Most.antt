@@ -73,3 +73,8 @@ most_tail t d b = ap (most d b) (sym (append-nil (replicate t 0))) ∙ ⊎_elim
     (λ (l : b < t). most_short t d b [] (omega arith) ∙ (let y : b ≡ min b t = omega arith in y))
     (λ (l : t ≤ b). most_plain t d b [] l ∙ (let y : t + 0 ≡ min b t = omega arith in y))
     (cases_lt b t)
+
+-- something is given of counts that begin with plain bytes and then one of at most d
+pub some_first : (g d b k : ℕ) (cs : List ℕ) → 0 < b → k ≤ d → 0 < most d b (replicate g 0 ++ (k ∷ cs))
+some_first zero d b k cs h l = omega (arith, most_next d b k cs h l)
+some_first (suc g) d b k cs h l = omega (arith, most_next d b 0 (replicate g 0 ++ (k ∷ cs)) h (omega arith))

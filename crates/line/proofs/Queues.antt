@@ -1,11 +1,11 @@
 -- Laws of a queue in a circle of slots.
-use Rattle.std.proofs.Common.{◌≡◌, ℕ, ◌+◌, ◌-◌, ◌<◌, ◌≤◌, min, ltb, List, [], ◌++◌, length, get_or, take, drop, set, sym, refl, ap, ◌∙◌, ⊎_elim, arith, take-add}
+use Rattle.std.proofs.Common.{◌≡◌, ℕ, ◌+◌, ◌-◌, ◌<◌, ◌≤◌, min, ltb, List, [], ◌∷◌, ◌++◌, length, take, drop, set, Some, None, Option, sym, refl, ap, ◌∙◌, ⊎_elim, arith, take-add}
+use Rattle.std.specs.Iterator.{AlwaysYields}
 use borrow.Rule.Slice.PartMut.{put_mid}
 use lib.Seq.{take-set-lt}
-use Rattle.std.proofs.lemmas.List.{append_assoc, take-append-drop, append-nil, length-append, length-take, length-drop, drop-take, drop-drop, drop-append-le, take-append-le, take-take, take_at, drop_at, take_all, length-take-le, get_or-take, get_or_append_left, get_or-append_right, get_or-drop, set-append_left, set-append_right, nil_from_length, drop_all, take-set-le, drop-set-add, drop-set-lt}
+use Rattle.std.proofs.lemmas.List.{append_assoc, take-append-drop, append-nil, length-append, length-take, length-drop, drop-take, drop-drop, drop-append-le, take-append-le, take-take, take_at, drop_at, take_all, length-take-le, set-append_left, set-append_right, nil_from_length, drop_all, take-set-le, drop-set-add, drop-set-lt}
 use Rattle.std.proofs.lemmas.Bool.{ltb-true, ltb-false, cond_both, cond-true, cond-false, lt-ltb, le-ltb, cases_lt}
-use Rattle.line.specs.declared.queue.Span.{Span}
-use Rattle.line.specs.Queue.{turned, held, Sound, slot_of, fitting, around}
+use Rattle.line.specs.Queue.{turned, held, slot_of, fitting, around}
 
 module _ {X : Type 0} (n : ℕ) (s : List X) (head : ℕ) (e : length s ≡ n) (h : head ≤ n) where
   pub length_turned : length (turned head s) ≡ n
@@ -148,9 +148,6 @@ module _ {X : Type 0} (n : ℕ) (s : List X) (head len : ℕ) (e : length s ≡ 
       ∙ append_assoc (held s head len) ys (zs ++ drop (length zs) (take head s))
       ∙ ap (λ y. held s head len ++ y) (sym (append_assoc ys zs (drop (length zs) (take head s)))))
 
-pub sound : {X : Type 0} (s : List X) (span : Span) → span.head ≤ length s → span.len ≤ length s → Sound s span
-sound s span h l = (h, l, length_held (length s) s span.head refl h span.len l)
-
 module _ {X : Type 0} (n : ℕ) (s : List X) (head : ℕ) (e : length s ≡ n) (h : head ≤ n) where
   -- the first items, in the two parts in which they lie
   pub first_items : (k f : ℕ) → k ≤ n → f ≡ min k (n - head) → held s head k ≡ take f (drop head s) ++ take (k - f) s
@@ -170,30 +167,6 @@ module _ {X : Type 0} (n : ℕ) (s : List X) (head : ℕ) (e : length s ≡ n) (
       ∙ ap (λ y. y ++ take (k - (n - head)) s) (sym whole)
       ∙ ap (λ y. take f (drop head s) ++ take (k - y) s) (sym f_is))
       (cases_lt k (n - head))
-
-  -- two copies to the front of a list
-  pub copied : (len k f : ℕ) (out ps qs : List X) → len ≤ n → k ≤ len → k ≤ length out → f ≡ min k (n - head) → ps ≡ take f (drop head s) → qs ≡ take (k - f) s
-      → put_mid f (k - f) (ps ++ drop f out) qs ≡ take k (held s head len) ++ drop k out
-  copied len k f out ps qs l m o d p q =
-      let ps_long : length ps ≡ f = ap length p ∙ length-take-le f (drop head s) (simp length-drop (omega arith)) in
-      let z : f + (k - f) ≡ k = omega arith in
-      ap (λ y. y ++ (qs ++ drop (k - f) (drop f (ps ++ drop f out)))) (take_at ps (drop f out) f ps_long)
-      ∙ ap (λ y. ps ++ (qs ++ drop (k - f) y)) (drop_at ps (drop f out) f ps_long)
-      ∙ ap (λ y. ps ++ (qs ++ y)) (drop-drop (k - f) f out ∙ ap (λ y. drop y out) z)
-      ∙ sym (append_assoc ps qs (drop k out))
-      ∙ ap (λ y. (y ++ qs) ++ drop k out) p
-      ∙ ap (λ y. (take f (drop head s) ++ y) ++ drop k out) q
-      ∙ ap (λ y. y ++ drop k out) (sym (take-take k len (turned head s) m ∙ first_items k f (omega arith) d))
-
-  get_or_turned : (i : ℕ) (d : X) → i < n → get_or s (slot_of n head i) d ≡ get_or (turned head s) i d
-  get_or_turned i d l =
-      cond_both (ltb i (n - head)) (head + i) (i - (n - head)) (λ p. get_or s p d ≡ get_or (turned head s) i d)
-      (λ t. sym (get_or_append_left (drop head s) (take head s) d i (omega (arith, ltb-true i (n - head) t, length_back n s head 0 e h)) ∙ get_or-drop head s i d))
-      (λ t. sym (get_or-append_right (drop head s) (take head s) (n - head) i d (length_back n s head 0 e h) (ltb-false i (n - head) t)
-      ∙ get_or-take head s (i - (n - head)) d (omega (arith, ltb-false i (n - head) t))))
-
-  pub get_or_held : (len i : ℕ) (d : X) → len ≤ n → i < len → get_or s (slot_of n head i) d ≡ get_or (held s head len) i d
-  get_or_held len i d l m = get_or_turned i d (omega arith) ∙ sym (get_or-take len (turned head s) i d m)
 
   set_turned : (i : ℕ) (x : X) → i < n → turned head (set s (slot_of n head i) x) ≡ set (turned head s) i x
   set_turned i x l =
@@ -256,3 +229,36 @@ written at f s new ps qs k d e p q =
     ∙ ap (λ y. put_mid 0 (length new - f) (put_mid at f s y) qs) p
     ∙ ap (λ y. put_mid 0 (length new - f) (put_mid at f s (take f new)) y) q
     ∙ ap (λ y. put_mid 0 (length new - y) (put_mid at y s (take y new)) (drop y new)) d
+
+-- the code's two copies out of a queue that lies in two parts
+pub copied : {X : Type 0} (n f : ℕ) (near far out ps qs rest : List X) → n ≡ length out → f ≡ min n (length near) → n ≤ length (near ++ far) → ps ≡ take f near → qs ≡ take (n - f) far → length rest ≡ 0
+    → take f (ps ++ drop f out) ++ (qs ++ rest) ≡ take n (near ++ far)
+copied n f near far out ps qs rest e d l p q r =
+    let ps_long : length ps ≡ f = ap length p ∙ length-take-le f near (omega arith) in
+    let parts : n ≤ length near + length far = omega (arith, length-append near far) in
+    ap (λ y. y ++ (qs ++ rest)) (take_at ps (drop f out) f ps_long)
+    ∙ ap (λ y. ps ++ (qs ++ y)) (nil_from_length rest r)
+    ∙ ap (λ y. ps ++ y) (append-nil qs)
+    ∙ ap (λ y. y ++ qs) p
+    ∙ ap (λ y. take f near ++ y) q
+    ∙ ⊎_elim
+    (λ (t : n < length near).
+    let f_is : f ≡ n = omega arith in
+    let z : n - f ≡ 0 = omega arith in
+    ap (λ y. take f near ++ take y far) z ∙ append-nil (take f near) ∙ ap (λ y. take y near) f_is ∙ sym (take-append-le n near far (omega arith)))
+    (λ (t : length near ≤ n).
+    let f_is : f ≡ length near = omega arith in
+    let whole : take f near ≡ near = take_all f near (omega arith) in
+    let z : f + (n - f) ≡ n = omega arith in
+    ap (λ y. y ++ take (n - f) far) (whole ∙ sym (take_at near far f (sym f_is))) ∙ ap (λ y. take f (near ++ far) ++ take (n - f) y) (sym (drop_at near far f (sym f_is))) ∙ sym (take-add f (n - f) (near ++ far)) ∙ ap (λ y. take y (near ++ far)) z)
+    (cases_lt n (length near))
+
+-- what a call of `next` gives of a list that is yielded
+module _ {S A B : Type 0} (steps : S → Option A → S → Type 0) (v : A → B) where
+  pub yielded_some : (s j : S) (x : A) (ys : List B) → AlwaysYields steps v s ys → steps s (Some x) j → (rest : List B) × (ys ≡ v x ∷ rest) × AlwaysYields steps v j rest
+  yielded_some s j x [] a h = absurd (a x j h)
+  yielded_some s j x (y ∷ ys) a h = let n = a.1 x j h in (ys, ap (λ z. z ∷ ys) (sym n.0), n.1)
+
+  pub yielded_none : (s j : S) (ys : List B) → AlwaysYields steps v s ys → steps s None j → ys ≡ []
+  yielded_none s j [] a h = refl
+  yielded_none s j (y ∷ ys) a h = absurd (a.0 j h)

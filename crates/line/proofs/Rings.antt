@@ -1,17 +1,21 @@
 -- The turns of a ring, over its three rows: bytes, counts and duplicates.
-use Rattle.std.proofs.Common.{◌≡◌, ℕ, zero, suc, ◌+◌, ◌-◌, ◌<◌, ◌≤◌, ltb, List, [], ◌∷◌, ◌++◌, length, take, drop, replicate, sum, sym, ap, ◌∙◌, inl, inr, arith}
-use Rattle.std.proofs.lemmas.List.{length-append, length-replicate, length-drop, length-take-le, take-append-drop}
+use Rattle.std.proofs.Common.{◌≡◌, ℕ, zero, suc, ◌+◌, ◌-◌, ◌<◌, ◌≤◌, ltb, List, [], ◌∷◌, ◌++◌, length, take, drop, replicate, sum, sym, ap, ◌∙◌, subst, inl, inr, arith}
+use Rattle.std.proofs.lemmas.List.{length-append, length-drop, length-take-le, take-append-drop}
 use Rattle.std.proofs.lemmas.List.Sums.{sum_by-take-le}
-use Rattle.std.proofs.lemmas.Bool.{cases_Bool, cond-true, cond-false, ltb-false}
+use Rattle.std.proofs.lemmas.Bool.{cases_Bool, cond-true, cond-false, ltb-false, lt-ltb, le-ltb}
+use Rattle.protocol.specs.Limits.{limits}
 use Rattle.protocol.specs.declared.fd.OwnedFd.{OwnedFd}
 use Rattle.protocol.specs.declared.limits.Limits.{Limits}
 use Rattle.line.specs.Choices.{Gone}
-use Rattle.line.specs.Line.{Cell, cells_of, fds_of, EachFew, MayGive}
+use Rattle.line.specs.Checks.{Receivable}
+use Rattle.line.specs.Line.{Cell, cells_of, fds_of, MayGive}
+use Rattle.line.specs.Marks.{Taken}
+use Rattle.line.specs.declared.share.Share.{Share}
 use Rattle.line.specs.Counted.{fd_counts, cells_from, most}
 use Rattle.line.specs.Sizes.{ring_bytes, ring_fds}
 use Rattle.line.specs.Ring.{ring_window, ring_gives, ring_choices}
-use Rattle.line.proofs.Most.{sum_cons, sum_append, sum_none, most_next}
-use Rattle.line.proofs.Counting.{length_from, bytes_take, fds_take, drop_from, append_from, counts_from, from_send}
+use Rattle.line.proofs.Most.{sum_append, most_next}
+use Rattle.line.proofs.Counting.{length_from, bytes_take, fds_take, drop_from, append_from, counts_from, from_send, fds_from}
 
 -- a window that takes n bytes has room for them and for the duplicates of a send
 pub window_open : (lim : Limits) (cells : List Cell) (n : ℕ) → 0 < n → n ≤ ring_window lim cells → (lim.descriptors ≤ ring_fds - length (fds_of cells)) × (n ≤ ring_bytes - length cells)
@@ -20,76 +24,85 @@ window_open lim cells n h l = elim (cases_Bool (ltb (ring_fds - length (fds_of c
   | inr t ↦ (ltb-false (ring_fds - length (fds_of cells)) lim.descriptors t, omega (arith, cond-false (ltb (ring_fds - length (fds_of cells)) lim.descriptors) 0 (ring_bytes - length cells) t))
 ]
 
+-- a ring's three rows: the bytes, how many duplicates each carries, and the duplicates
 module _ (bs ks : List ℕ) (fs : List OwnedFd) (l : length ks ≡ length bs) (t : sum ks ≡ length fs) where
+  abbrev pub cells : List Cell
+  cells = cells_from bs ks fs
+
+  fds_length : length (fds_of cells) ≡ length fs
+  fds_length = ap length (fds_from bs ks fs l t)
+
+  pub window_none : (all : List Cell) → cells ≡ all → ring_fds - length fs < limits.descriptors → 0 ≡ ring_window limits all
+  window_none all e h = sym (cond-true _ _ _ (lt-ltb (ring_fds - length (fds_of cells)) limits.descriptors (omega (arith, h, fds_length)))) ∙ ap (ring_window limits) e
+
+  pub window_some : (all : List Cell) → cells ≡ all → limits.descriptors ≤ ring_fds - length fs → ring_bytes - length bs ≡ ring_window limits all
+  window_some all e h =
+      ap (λ n. ring_bytes - n) (sym (length_from bs ks fs))
+      ∙ sym (cond-false _ _ _ (le-ltb (ring_fds - length (fds_of cells)) limits.descriptors (omega (arith, h, fds_length))))
+      ∙ ap (ring_window limits) e
+
+  -- a window that takes bytes: room for them, and for the duplicates of a send
+  pub bytes_room : (all : List Cell) → cells ≡ all → (n : ℕ) → 0 < n → n ≤ ring_window limits all → length bs + n ≤ ring_bytes
+  bytes_room all e n h m = omega (arith, (window_open limits cells n h (omega (arith, m, ap (ring_window limits) e))).1, h, length_from bs ks fs)
+
+  pub fds_room : (all : List Cell) → cells ≡ all → (n : ℕ) → 0 < n → n ≤ ring_window limits all → length fs + limits.descriptors ≤ ring_fds
+  fds_room all e n h m = omega (arith, (window_open limits cells n h (omega (arith, m, ap (ring_window limits) e))).0, fds_length)
+
   -- a send goes behind what is there
   module _ (new : List ℕ) (nf : List OwnedFd) (h : 0 < length new) (bs' ks' : List ℕ) (fs' : List OwnedFd)
       (eb : bs' ≡ bs ++ new) (ek : ks' ≡ ks ++ (length nf ∷ replicate (length new - 1) 0)) (ef : fs' ≡ fs ++ nf) where
-    put_cells : cells_from bs' ks' fs' ≡ cells_from bs ks fs ++ cells_of new nf
+    pub put_cells : cells_from bs' ks' fs' ≡ cells ++ cells_of new nf
     put_cells =
         ap (λ y. cells_from y ks' fs') eb ∙ ap (λ y. cells_from (bs ++ new) y fs') ek ∙ ap (cells_from (bs ++ new) (ks ++ (length nf ∷ replicate (length new - 1) 0))) ef
         ∙ append_from bs new ks (length nf ∷ replicate (length new - 1) 0) fs nf l t
-        ∙ ap (λ y. cells_from bs ks fs ++ y) (from_send new nf h)
+        ∙ ap (λ y. cells ++ y) (from_send new nf h)
 
-    put_counts : length ks' ≡ length bs'
-    put_counts =
-        ap length ek ∙ length-append ks (length nf ∷ replicate (length new - 1) 0)
-        ∙ (let z : length ks + suc (length (replicate {A = ℕ} (length new - 1) 0)) ≡ length bs + length new = omega (arith, length-replicate {A = ℕ} (length new - 1) 0) in z)
-        ∙ sym (ap length eb ∙ length-append bs new)
+  -- the first cells are gone, with the duplicates on them
+  module _ (lim : Limits) (asked : ℕ) (share : Share) (ks' : List ℕ) (taken : Taken lim.descriptors asked ks share ks') (bs' : List ℕ) (fs' : List OwnedFd) (eb : bs' ≡ drop share.bytes bs) (ef : fs' ≡ drop share.fds fs) where
+    k_there : share.fds ≤ length fs
+    k_there = omega (arith, taken.fds, sum_by-take-le (λ x. x) ks share.bytes)
 
-    put_sum : sum ks' ≡ length fs'
-    put_sum =
-        ap sum ek ∙ sum_append ks (length nf ∷ replicate (length new - 1) 0) ∙ ap (λ y. sum ks + y) (sum_cons (length nf) (replicate (length new - 1) 0))
-        ∙ (let z : sum ks + (length nf + sum (replicate (length new - 1) 0)) ≡ length fs + length nf = omega (arith, sum_none (length new - 1)) in z)
-        ∙ sym (ap length ef ∙ length-append fs nf)
+    pub give_counts : length ks' ≡ length bs'
+    give_counts = ap length taken.after ∙ length-drop share.bytes ks ∙ ap (λ y. y - share.bytes) l ∙ sym (ap length eb ∙ length-drop share.bytes bs)
 
-    pub put_rows : (length ks' ≡ length bs') × (sum ks' ≡ length fs') × (cells_from bs' ks' fs' ≡ cells_from bs ks fs ++ cells_of new nf)
-    put_rows = (put_counts, put_sum, put_cells)
+    pub give_sum : sum ks' ≡ length fs'
+    give_sum =
+        ap sum taken.after
+        ∙ (let z : sum (drop share.bytes ks) ≡ length fs - share.fds = omega (arith, taken.fds, sum_append (take share.bytes ks) (drop share.bytes ks), ap sum (take-append-drop share.bytes ks)) in z)
+        ∙ sym (ap length ef ∙ length-drop share.fds fs)
 
-  -- the first n cells are gone, with the k duplicates on them
-  module _ (n k : ℕ) (m : n ≤ length ks) (s : k ≡ sum (take n ks)) where
-    k_there : k ≤ length fs
-    k_there = omega (arith, sum_by-take-le (λ x. x) ks n)
+    give_cells : cells_from bs' ks' fs' ≡ drop share.bytes cells
+    give_cells =
+        ap (λ y. cells_from y ks' fs') eb ∙ ap (λ y. cells_from (drop share.bytes bs) y fs') taken.after ∙ ap (cells_from (drop share.bytes bs) (drop share.bytes ks)) (ef ∙ ap (λ y. drop y fs) taken.fds)
+        ∙ sym (drop_from share.bytes bs ks fs l)
 
-    module _ (bs' ks' : List ℕ) (fs' : List OwnedFd) (eb : bs' ≡ drop n bs) (ek : ks' ≡ drop n ks) (ef : fs' ≡ drop k fs) where
-      give_cells : cells_from bs' ks' fs' ≡ drop n (cells_from bs ks fs)
-      give_cells =
-          ap (λ y. cells_from y ks' fs') eb ∙ ap (λ y. cells_from (drop n bs) y fs') ek ∙ ap (cells_from (drop n bs) (drop n ks)) (ef ∙ ap (λ y. drop y fs) s)
-          ∙ sym (drop_from n bs ks fs l)
+    gone_here : (out out' : List ℕ) (fout fout' : List OwnedFd) → asked ≡ length out → Receivable lim (length cells) (length out) (length fout)
+        → out' ≡ take share.bytes bs ++ drop share.bytes out → fout' ≡ take share.fds fs ++ drop share.fds fout → Gone lim (ring_choices lim) cells out fout share.bytes share.fds out' fout' (cells_from bs' ks' fs')
+    gone_here out out' fout fout' a r ob of =
+        let given : fds_of (take share.bytes cells) ≡ take share.fds fs = fds_take share.bytes bs ks fs l ∙ ap (λ y. take y fs) (sym taken.fds) in
+        let count : share.fds ≡ length (fds_of (take share.bytes cells)) = sym (ap length given ∙ length-take-le share.fds fs k_there) in
+        let whole = length_from bs ks fs in
+        record {
+          chosen = taken.bytes ∙ ap (λ y. most lim.descriptors y ks) a ∙ ap (most lim.descriptors (length out)) (sym (counts_from bs ks fs l (omega arith)));
+          may = record {
+            some = taken.some (omega (arith, r.0)) (omega (arith, r.2));
+            wanted = omega (arith, taken.wanted);
+            there = omega (arith, taken.there);
+            few = omega (arith, taken.few);
+          };
+          count = count;
+          bytes = ob ∙ ap (λ y. y ++ drop share.bytes out) (sym (bytes_take share.bytes bs ks fs));
+          fds = of ∙ ap (λ y. y ++ drop share.fds fout) (sym given);
+          rest = give_cells;
+        }
 
-      give_counts : length ks' ≡ length bs'
-      give_counts = ap length ek ∙ length-drop n ks ∙ ap (λ y. y - n) l ∙ sym (ap length eb ∙ length-drop n bs)
+    pub gone : (all : List Cell) → cells ≡ all → (out out' : List ℕ) (fout fout' : List OwnedFd) → asked ≡ length out → Receivable lim (length all) (length out) (length fout)
+        → out' ≡ take share.bytes bs ++ drop share.bytes out → fout' ≡ take share.fds fs ++ drop share.fds fout → Gone lim (ring_choices lim) all out fout share.bytes share.fds out' fout' (cells_from bs' ks' fs')
+    gone all e out out' fout fout' a r ob of =
+        subst (λ y. Gone lim (ring_choices lim) y out fout share.bytes share.fds out' fout' (cells_from bs' ks' fs')) e
+        (gone_here out out' fout fout' a (subst (λ y. Receivable lim (length y) (length out) (length fout)) (sym e) r) ob of)
 
-      give_sum : sum ks' ≡ length fs'
-      give_sum =
-          ap sum ek
-          ∙ (let z : sum (drop n ks) ≡ length fs - k = omega (arith, sum_append (take n ks) (drop n ks), ap sum (take-append-drop n ks)) in z)
-          ∙ sym (ap length ef ∙ length-drop k fs)
-
-      gone : (lim : Limits) (out out' : List ℕ) (fout fout' : List OwnedFd) → n ≡ most lim.descriptors (length out) ks → 0 < ring_gives lim (length out) (cells_from bs ks fs) → n ≤ length out → k ≤ lim.descriptors
-          → out' ≡ take n bs ++ drop n out → fout' ≡ take k fs ++ drop k fout → Gone lim (ring_choices lim) (cells_from bs ks fs) out fout n k out' fout' (cells_from bs' ks' fs')
-      gone lim out out' fout fout' c some w few ob of =
-          let given : fds_of (take n (cells_from bs ks fs)) ≡ take k fs = fds_take n bs ks fs l ∙ ap (λ y. take y fs) (sym s) in
-          let count : k ≡ length (fds_of (take n (cells_from bs ks fs))) = sym (ap length given ∙ length-take-le k fs k_there) in
-          let chosen : n ≡ ring_gives lim (length out) (cells_from bs ks fs) = c ∙ ap (most lim.descriptors (length out)) (sym (counts_from bs ks fs l (omega arith))) in
-          record {
-            chosen = chosen;
-            may = record { some = omega arith; wanted = w; there = omega (arith, length_from bs ks fs); few = omega arith };
-            count = count;
-            bytes = ob ∙ ap (λ y. y ++ drop n out) (sym (bytes_take n bs ks fs));
-            fds = of ∙ ap (λ y. y ++ drop k fout) (sym given);
-            rest = give_cells;
-          }
-
-      pub give_rows : (lim : Limits) (out out' : List ℕ) (fout fout' : List OwnedFd) → n ≡ most lim.descriptors (length out) ks → 0 < ring_gives lim (length out) (cells_from bs ks fs) → n ≤ length out → k ≤ lim.descriptors
-          → out' ≡ take n bs ++ drop n out → fout' ≡ take k fs ++ drop k fout
-          → (length ks' ≡ length bs') × (sum ks' ≡ length fs') × Gone lim (ring_choices lim) (cells_from bs ks fs) out fout n k out' fout' (cells_from bs' ks' fs')
-      give_rows lim out out' fout fout' c some w few ob of = (give_counts, give_sum, gone lim out out' fout fout' c some w few ob of)
-
--- a ring with cells gives one at least, and never could give more
-pub gives_some : (lim : Limits) (cells : List Cell) (asked : ℕ) → EachFew lim.descriptors cells → 0 < length cells → 0 < asked → 0 < ring_gives lim asked cells
-gives_some lim [] asked few h l = absurd (omega arith)
-gives_some lim (c ∷ cells) asked few h l = omega (arith, most_next lim.descriptors asked (length c.fds) (fd_counts cells) l few.0)
-
+-- a ring never could give more than it gives
 gives_largest : (cells : List Cell) (d asked n : ℕ) → n ≤ asked → n ≤ length cells → length (fds_of (take n cells)) ≤ d → n ≤ most d asked (fd_counts cells)
 gives_largest cells d asked zero a l f = omega arith
 gives_largest [] d asked (suc n) a l f = absurd (let z : suc n ≤ 0 = l in omega arith)

@@ -1,12 +1,9 @@
 pub mod Bounds
-pub mod CellsView
 pub mod Checks
 pub mod Choices
 pub mod Counted
-pub mod HeldView
 pub mod Line
 pub mod Marks
-pub mod MarksView
 pub mod Parcel
 pub mod ParcelView
 pub mod Queue
@@ -14,3 +11,4 @@ pub mod Ring
 pub mod RingView
 pub mod Seen
 pub mod Sizes
+pub mod StoredView

@@ -1,8 +1,8 @@
 -- A ring notes by marks which bytes carry duplicates: so many bytes without any, and then one that carries some.
-use Rattle.std.specs.Prelude.{◌≡◌, ℕ, ◌+◌, ◌-◌, ◌≤◌, min, Bool, true, ◌&&◌, List, [], ◌∷◌, ◌++◌, length, take, drop, replicate, sum, nat_le, nat_lt}
+use Rattle.std.specs.Prelude.{◌≡◌, ℕ, ◌<◌, ◌≤◌, Bool, true, ◌&&◌, List, [], ◌∷◌, ◌++◌, length, take, drop, replicate, sum, nat_le, nat_lt}
 use Rattle.line.specs.Counted.{most}
 use Rattle.line.specs.declared.marks.Mark.{Mark}
-use Rattle.line.specs.declared.marks.Whole.{Whole}
+use Rattle.line.specs.declared.share.Share.{Share}
 
 -- how many duplicates each byte carries, up to the last mark
 abbrev pub spread : List Mark → List ℕ
@@ -23,12 +23,12 @@ abbrev pub plain : List Mark → ℕ → ℕ
 plain [] tail = tail
 plain (m ∷ ms) tail = m.gap
 
--- the marks that are given whole where so many bytes are asked for, with d duplicates at most; of what is left only plain bytes are given with them
-pub record Wholly (d asked : ℕ) (ms : List Mark) (tail : ℕ) (w : Whole) : Type 0 where
-  pub wanted : w.bytes ≤ asked
-  pub there : w.bytes ≤ length (counts ms tail)
-  pub marks : w.marks ≤ length ms
-  pub few : w.fds ≤ d
-  pub fds : w.fds ≡ sum (take w.bytes (counts ms tail))
-  pub rest : drop w.bytes (counts ms tail) ≡ counts (drop w.marks ms) tail
-  pub most : most d asked (counts ms tail) ≡ w.bytes + min (asked - w.bytes) (plain (drop w.marks ms) tail)
+-- what is taken of the counts, where so many bytes are asked for, with d duplicates at most: as much as may be given
+pub record Taken (d asked : ℕ) (all : List ℕ) (share : Share) (left : List ℕ) : Type 0 where
+  pub bytes : share.bytes ≡ most d asked all
+  pub some : 0 < asked → 0 < length all → 0 < share.bytes
+  pub fds : share.fds ≡ sum (take share.bytes all)
+  pub few : share.fds ≤ d
+  pub wanted : share.bytes ≤ asked
+  pub there : share.bytes ≤ length all
+  pub after : left ≡ drop share.bytes all

@@ -1,7 +1,6 @@
 -- A queue in a circle of slots: its items lie from the slot `head` on, and the last slot is followed by the first.
-use Rattle.std.specs.Prelude.{◌≡◌, ℕ, ◌+◌, ◌-◌, ◌≤◌, min, cond, List, ◌++◌, length, take, drop, nat_lt}
+use Rattle.std.specs.Prelude.{ℕ, ◌+◌, ◌-◌, min, cond, List, ◌++◌, length, take, drop, nat_lt}
 use borrow.Rule.Slice.PartMut.{put_mid}
-use Rattle.line.specs.declared.queue.Span.{Span}
 
 -- the slots in the order of the queue
 abbrev pub turned : {X : Type 0} → ℕ → List X → List X
@@ -9,14 +8,6 @@ turned head slots = drop head slots ++ take head slots
 
 abbrev pub held : {X : Type 0} → List X → ℕ → ℕ → List X
 held slots head len = take len (turned head slots)
-
--- the items of a queue
-abbrev pub queued : {X : Type 0} → List X → Span → List X
-queued slots span = held slots span.head span.len
-
--- what holds of every queue: head and length are inside the circle, and so many items there are
-abbrev pub Sound : {X : Type 0} → List X → Span → Type 0
-Sound slots span = (span.head ≤ length slots) × (span.len ≤ length slots) × (length (queued slots span) ≡ span.len)
 
 -- the slot of the place i of a queue, in a circle of n slots
 abbrev pub slot_of : ℕ → ℕ → ℕ → ℕ

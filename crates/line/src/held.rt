@@ -1,13 +1,89 @@
-mod ops;
+ghost use Rattle.std.specs.Prelude.{◌≡◌, ℕ, ◌<◌, ◌≤◌, [], ◌++◌, length, Ok};
+ghost use Rattle.protocol.specs.Limits.{limits};
+ghost use Rattle.line.specs.Checks.{Receivable};
+ghost use Rattle.line.specs.Choices.{Gone};
+ghost use Rattle.line.specs.Line.{cells_of};
+ghost use Rattle.line.specs.Parcel.{parcel_choices};
+ghost use Rattle.line.specs.Seen.{seen_at};
 
+use crate::queue::Queue;
+use crate::share::Share;
+use crate::store::Store;
+use crate::view::CellView;
 use protocol::{LIMITS, OwnedFd};
+use std::marker::Model;
 
-// The cells that wait in a parcel line: the bytes from `first` to `end`, with `fds_len` duplicates on the first of them.
+const SEND_BYTES: usize = LIMITS.bytes;
+
+const SEND_FDS: usize = LIMITS.descriptors;
+
+// The cells that wait in a parcel line: bytes of one send, with the duplicates on the first of them.
 #[derive(Drop)]
-pub(crate) struct Held {
-    bytes: [u8; LIMITS.bytes],
-    first: usize,
-    end: usize,
-    fds: [OwnedFd; LIMITS.descriptors],
-    fds_len: usize,
+pub struct Held {
+    bytes: Queue<u8, SEND_BYTES>,
+    fds: Queue<OwnedFd, SEND_FDS>,
+}
+
+impl Model for Held {
+    ghost use Rattle.std.specs.Prelude.{◌≡◌, List, length};
+    ghost use Rattle.line.specs.Line.{Cell, cells_of};
+
+    ghost Value = { List Cell };
+
+    ghost view = { λ h. cells_of h.bytes h.fds };
+
+    ghost invariant = { λ h. length h.bytes ≡ 0 → length h.fds ≡ 0 };
+}
+
+impl Store for Held {
+    ghost cells = { λ h. h };
+
+    ghost choices = { parcel_choices limits };
+
+    // nothing more: its choices say all
+    ghost promise = { λ cells asked answer. Unit {0} };
+
+    fn new() -> Held {
+        Held {
+            bytes: Queue::new(0),
+            fds: Queue::new(OwnedFd(0)),
+        }
+    }
+
+    #[tactic(auto, using(crate::proofs::Seeing::length_cells))]
+    fn len(&self) -> usize {
+        self.bytes.len()
+    }
+
+    // A whole send, once nothing waits.
+    #[tactic(auto, using(crate::proofs::Parcels::busy))]
+    fn window(&self) -> usize {
+        if self.bytes.len() == 0 { SEND_BYTES } else { 0 }
+    }
+
+    #[tactic(auto, using(crate::proofs::Parcels::empty_open, crate::proofs::Parcels::put_held))]
+    fn put(&mut self, bytes: &[u8], fds: &[OwnedFd]) {
+        self.bytes.put(bytes);
+        self.fds.put(fds);
+    }
+
+    // The first cell.
+    fn give(&mut self, bytes: &mut [u8], fds: &mut [OwnedFd]) -> Share {
+        let share = Share {
+            bytes: 1,
+            fds: self.fds.len(),
+        };
+        self.bytes.take(&mut bytes[..share.bytes]);
+        self.fds.take(&mut fds[..share.fds]);
+        share
+    }
+
+    #[tactic(auto, using(crate::proofs::Seeing::length_cells, crate::proofs::Seeing::past, crate::proofs::Seeing::seen_past, crate::proofs::Seeing::seen_first, crate::proofs::Seeing::seen_later))]
+    fn view(&self, place: usize) -> Option<CellView> {
+        let byte = self.bytes.get(place)?;
+        let fds = if place == 0 { self.fds.len() } else { 0 };
+        Some(CellView { byte, fds })
+    }
+
+    ghost refused = { λ cells asked why. tt };
 }

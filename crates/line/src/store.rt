@@ -1,0 +1,51 @@
+ghost use Rattle.std.specs.Prelude.{◌≡◌, ℕ, ◌<◌, ◌≤◌, List, [], ◌++◌, length, Ok, Err, Result};
+ghost use Rattle.protocol.specs.Limits.{limits};
+ghost use Rattle.protocol.specs.declared.refusal.Refusal.{Refusal};
+ghost use Rattle.line.specs.Checks.{Receivable};
+ghost use Rattle.line.specs.Choices.{Choices, Gone};
+ghost use Rattle.line.specs.Line.{Cell, cells_of};
+ghost use Rattle.line.specs.Seen.{seen_at};
+
+use crate::share::Share;
+use crate::view::CellView;
+use protocol::OwnedFd;
+
+// Where a kind of line keeps the cells that wait, and what the kind chooses.
+pub trait Store {
+    // the cells that wait, in their order
+    ghost cells: { Self → List Cell };
+
+    // the window, and how many cells are given
+    ghost choices: { Choices };
+
+    // what more the kind promises of what a receive answers, with these cells waiting and so many bytes asked for
+    ghost promise: { List Cell → ℕ → Result (ℕ × ℕ) Refusal → Type 0 };
+
+    fn new() -> Self
+        ensures { cells result ≡ [] };
+
+    fn len(&self) -> usize
+        ensures { result ≡ length (cells self.now) };
+
+    // How many more bytes are taken.
+    fn window(&self) -> usize
+        ensures { result ≡ choices.window (cells self.now) };
+
+    // Puts bytes behind those that wait, with all duplicates on the first.
+    fn put(&mut self, bytes: &[u8], fds: &[OwnedFd])
+        requires some { 0 < length bytes.now }
+        requires room { length bytes.now ≤ choices.window (cells self.old) }
+        requires few { length fds.now ≤ limits.descriptors }
+        ensures { cells self.new ≡ cells self.old ++ cells_of bytes.now fds.now };
+
+    // Gives some of the first cells: they go to the front of the two buffers.
+    fn give(&mut self, bytes: &mut [u8], fds: &mut [OwnedFd]) -> Share
+        requires { Receivable limits (length (cells self.old)) (length bytes.old) (length fds.old) }
+        ensures gone { Gone limits choices (cells self.old) bytes.old fds.old result.bytes result.fds bytes.new fds.new (cells self.new) }
+        ensures promise { promise (cells self.old) (length bytes.old) (Ok (result.bytes, result.fds)) };
+
+    fn view(&self, place: usize) -> Option<CellView>
+        ensures { result ≡ seen_at (cells self.now) place };
+
+    ghost refused: { (cells : List Cell) (asked : ℕ) (why : Refusal) → promise cells asked (Err why) };
+}
