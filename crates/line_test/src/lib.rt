@@ -4,5 +4,6 @@
 
 #[cfg(test)]
 mod driver;
+mod kinds;
 #[cfg(test)]
 mod tests;

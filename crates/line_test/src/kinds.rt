@@ -1,0 +1,61 @@
+ghost use Rattle.std.specs.Prelude.{◌≡◌, [], length};
+ghost use Rattle.protocol.specs.Limits.{limits};
+ghost use Rattle.line.specs.Choices.{SentBy, ReceivedBy, state_by};
+ghost use Rattle.line.specs.Line.{Sent, Received};
+ghost use Rattle.line.specs.Parcel.{parcel_choices};
+ghost use Rattle.line.specs.ParcelView.{parcel_state};
+ghost use Rattle.line.specs.Ring.{ring_choices, GivesMost};
+ghost use Rattle.line.specs.RingView.{ring_state};
+
+use line::{Line, Parcel, Ring};
+use protocol::{OwnedFd, Refusal};
+
+// What a user of each kind of line may lean on, in the words of the kind: the contracts of `Stored` at its two stores.
+fn new_ring() -> Ring
+    ensures { ring_state result ≡ state_by (ring_choices limits) [] 0 }
+{
+    Ring::new()
+}
+
+fn send_to_ring(ring: &mut Ring, bytes: &[u8], fds: &[OwnedFd]) -> Result<usize, Refusal>
+    ensures sent { Sent limits (ring_state ring.old) bytes.now fds.now result (ring_state ring.new) }
+    ensures chosen { SentBy (ring_choices limits) (ring_state ring.old) bytes.now fds.now result (ring_state ring.new) }
+{
+    ring.send(bytes, fds)
+}
+
+fn receive_from_ring(
+    ring: &mut Ring,
+    bytes: &mut [u8],
+    fds: &mut [OwnedFd],
+) -> Result<(usize, usize), Refusal>
+    ensures received { Received limits (ring_state ring.old) bytes.old fds.old result bytes.new fds.new (ring_state ring.new) }
+    ensures chosen { ReceivedBy (ring_choices limits) (ring_state ring.old) (length bytes.old) result (ring_state ring.new) }
+    ensures most { GivesMost limits (ring_state ring.old).cells (length bytes.old) result }
+{
+    ring.receive(bytes, fds)
+}
+
+fn new_parcel() -> Parcel
+    ensures { parcel_state result ≡ state_by (parcel_choices limits) [] 0 }
+{
+    Parcel::new()
+}
+
+fn send_to_parcel(parcel: &mut Parcel, bytes: &[u8], fds: &[OwnedFd]) -> Result<usize, Refusal>
+    ensures sent { Sent limits (parcel_state parcel.old) bytes.now fds.now result (parcel_state parcel.new) }
+    ensures chosen { SentBy (parcel_choices limits) (parcel_state parcel.old) bytes.now fds.now result (parcel_state parcel.new) }
+{
+    parcel.send(bytes, fds)
+}
+
+fn receive_from_parcel(
+    parcel: &mut Parcel,
+    bytes: &mut [u8],
+    fds: &mut [OwnedFd],
+) -> Result<(usize, usize), Refusal>
+    ensures received { Received limits (parcel_state parcel.old) bytes.old fds.old result bytes.new fds.new (parcel_state parcel.new) }
+    ensures chosen { ReceivedBy (parcel_choices limits) (parcel_state parcel.old) (length bytes.old) result (parcel_state parcel.new) }
+{
+    parcel.receive(bytes, fds)
+}
