@@ -221,15 +221,6 @@ module _ {X : Type 0} (n : ℕ) (s : List X) (head : ℕ) (e : length s ≡ n) (
   queued_on len at new l d =
       put_on len at (fitting at s new) new (take (fitting at s new) new) (drop (fitting at s new) new) l d (ap (λ y. min (length new) (y - at)) e) refl refl
 
--- the code's two copies
-pub written : {X : Type 0} (at f : ℕ) (s new ps qs : List X) (k : ℕ) → f ≡ fitting at s new → k ≡ f → ps ≡ take f new → qs ≡ drop f new
-    → put_mid 0 (length new - f) (put_mid at k s ps) qs ≡ around at s new
-written at f s new ps qs k d e p q =
-    ap (λ y. put_mid 0 (length new - f) (put_mid at y s ps) qs) e
-    ∙ ap (λ y. put_mid 0 (length new - f) (put_mid at f s y) qs) p
-    ∙ ap (λ y. put_mid 0 (length new - f) (put_mid at f s (take f new)) y) q
-    ∙ ap (λ y. put_mid 0 (length new - y) (put_mid at y s (take y new)) (drop y new)) d
-
 -- the code's two copies out of a queue that lies in two parts
 pub copied : {X : Type 0} (n f : ℕ) (near far out ps qs rest : List X) → n ≡ length out → f ≡ min n (length near) → n ≤ length (near ++ far) → ps ≡ take f near → qs ≡ take (n - f) far → length rest ≡ 0
     → take f (ps ++ drop f out) ++ (qs ++ rest) ≡ take n (near ++ far)

@@ -9,7 +9,7 @@ use protocol::{LIMITS, Refusal};
 // The code of a line that its host shuts without one: that of a broken pipe.
 const BROKEN_PIPE: u32 = 32;
 
-// Whether a line takes anything of a send of so many bytes and duplicates.
+// Whether a line takes anything of a send of so many bytes and duplicates: the four numbers are those of `send_refusal`, in its order.
 pub(crate) fn check_send(window: usize, shut: u32, bytes: usize, fds: usize) -> Result<(), Refusal>
     ensures { Passed (send_refusal limits window shut bytes fds) (Sendable limits window shut bytes fds) result }
 {

@@ -11,6 +11,7 @@ use std::marker::Model;
 use std::slice::Iter;
 
 // At most N items in their order, in a circle of slots: they lie from the slot `head` on, and the last slot is followed by the first.
+// A `VecDeque` allocates, and no call of a line may.
 #[derive(Drop)]
 pub(crate) struct Queue<T, const N: usize> {
     slots: [T; N],
@@ -44,7 +45,7 @@ fn slot(n: usize, head: usize, place: usize) -> usize
     }
 }
 
-// Writes from a slot on, and what passes the last slot from the first one on.
+// Writes from a slot on, and what passes the last slot from the first one on. It takes a slice, since no part of an array of N slots can be lent for writing.
 fn write_around<T: Copy>(slots: &mut [T], at: usize, new: &[T])
     requires inside { at ≤ length slots.old }
     requires room { length new.now ≤ length slots.old }

@@ -9,10 +9,11 @@ use crate::store::Store;
 use crate::view::{CellView, LineView};
 use protocol::{OwnedFd, Refusal};
 
-// A line over a store: it checks what is asked of it, and keeps the code that it is shut with, 0 while it is open.
+// A line over a store: it checks what is asked of it, and keeps the code that it is shut with.
 #[derive(Drop)]
 pub struct Stored<S: Store> {
     store: S,
+    // 0 while it is open: the meaning of a line fixes this number, so it is no `Option`
     shut: u32,
     ghost few: { EachFew limits.descriptors (S.cells store) } by { EachFew-prop limits.descriptors (S.cells store) },
 }

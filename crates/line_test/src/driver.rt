@@ -110,9 +110,10 @@ impl<L: Line + Hosted> Driver<L> {
                 "step {step}: a byte"
             );
         }
-        for byte in behind {
-            assert_eq!(rt; *byte, BLANK, "step {step}: a place behind the bytes");
-        }
+        assert!(rt;
+            behind.iter().all(|byte| *byte == BLANK),
+            "step {step}: a place behind the bytes"
+        );
         self.bytes_out = self.bytes_out.wrapping_add(n);
     }
 
@@ -128,9 +129,10 @@ impl<L: Line + Hosted> Driver<L> {
                 "step {step}: a duplicate before its byte"
             );
         }
-        for fd in behind {
-            assert_eq!(rt; *fd, NO_FD, "step {step}: a place behind the duplicates");
-        }
+        assert!(rt;
+            behind.iter().all(|fd| *fd == NO_FD),
+            "step {step}: a place behind the duplicates"
+        );
         self.fds_out = self.fds_out.wrapping_add(k);
         if self.fds_out < self.fds_in {
             assert!(rt;
@@ -145,10 +147,13 @@ impl<L: Line + Hosted> Driver<L> {
     }
 
     // Sends so many bytes, and receives where the line takes no more, until it has taken all.
-    fn carry(&mut self, rt: &impl Abort, bytes: usize, fds: usize) -> Result<(), Fail> {
+    fn carry(
+        &mut self,
+        rt: &impl Abort,
+        mut bytes: usize,
+        mut fds: usize,
+    ) -> Result<(), Fail> {
         let step = self.step;
-        let mut bytes = bytes;
-        let mut fds = fds;
         for _ in 0..10_000 {
             match self.send(bytes, fds) {
                 Ok(n) => {

@@ -46,6 +46,12 @@ const SHUT: [Step; 8] = [
     Send(1, 0, Err(Broken(32))),
 ];
 
+// Takes a new ring and a new parcel line through the steps of each.
+fn both(rt: &impl Abort, ring: &[Step], parcel: &[Step]) -> Result<(), Fail> {
+    Driver::new(Ring::new()).follow(rt, ring)?;
+    Driver::new(Parcel::new()).follow(rt, parcel)
+}
+
 fn carry_all<L: Line + Hosted + Drop>(rt: &impl Abort, line: L) -> Result<(), Fail> {
     let mut driver = Driver::new(line);
     driver.follow(rt, &AROUND)?;
@@ -92,8 +98,7 @@ const FULL_PARCEL: [Step; 11] = [
 
 #[test]
 fn both_are_exactly_full(rt: HostRuntime) -> Result<(), Fail> {
-    Driver::new(Ring::new()).follow(&rt, &FULL_RING)?;
-    Driver::new(Parcel::new()).follow(&rt, &FULL_PARCEL)
+    both(&rt, &FULL_RING, &FULL_PARCEL)
 }
 
 // A ring with 28 free places takes bytes, with 27 it takes none.
@@ -155,8 +160,7 @@ const SHUT_WITH_CODE: [Step; 5] = [
 
 #[test]
 fn both_are_shut_with_their_first_code(rt: HostRuntime) -> Result<(), Fail> {
-    Driver::new(Ring::new()).follow(&rt, &SHUT_WITH_CODE)?;
-    Driver::new(Parcel::new()).follow(&rt, &SHUT_WITH_CODE)
+    both(&rt, &SHUT_WITH_CODE, &SHUT_WITH_CODE)
 }
 
 const LIMITS: [Step; 9] = [
@@ -173,6 +177,5 @@ const LIMITS: [Step; 9] = [
 
 #[test]
 fn both_keep_the_limits(rt: HostRuntime) -> Result<(), Fail> {
-    Driver::new(Ring::new()).follow(&rt, &LIMITS)?;
-    Driver::new(Parcel::new()).follow(&rt, &LIMITS)
+    both(&rt, &LIMITS, &LIMITS)
 }
