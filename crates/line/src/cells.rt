@@ -40,7 +40,7 @@ impl Store for Cells {
 
     ghost choices = { ring_choices limits };
 
-    ghost promise = { GivesMost limits };
+    ghost most = { GivesMost limits };
 
     fn new() -> Cells {
         Cells {

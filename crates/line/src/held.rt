@@ -40,8 +40,8 @@ impl Store for Held {
 
     ghost choices = { parcel_choices limits };
 
-    // nothing more: its choices say all
-    ghost promise = { λ cells asked answer. Unit {0} };
+    // nothing: its choices say all
+    ghost most = { λ cells asked answer. Unit {0} };
 
     fn new() -> Held {
         Held {

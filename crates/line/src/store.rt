@@ -18,8 +18,8 @@ pub trait Store {
     // the window, and how many cells are given
     ghost choices: { Choices };
 
-    // what more the kind promises of what a receive answers, with these cells waiting and so many bytes asked for
-    ghost promise: { List Cell → ℕ → Result (ℕ × ℕ) Refusal → Type 0 };
+    // what the kind promises of how many cells are given, beyond its choices: with these waiting, so many bytes asked for, and what a receive answers
+    ghost most: { List Cell → ℕ → Result (ℕ × ℕ) Refusal → Type 0 };
 
     fn new() -> Self
         ensures { cells result ≡ [] };
@@ -42,10 +42,10 @@ pub trait Store {
     fn give(&mut self, bytes: &mut [u8], fds: &mut [OwnedFd]) -> Share
         requires { Receivable limits (length (cells self.old)) (length bytes.old) (length fds.old) }
         ensures gone { Gone limits choices (cells self.old) bytes.old fds.old result.bytes result.fds bytes.new fds.new (cells self.new) }
-        ensures promise { promise (cells self.old) (length bytes.old) (Ok (result.bytes, result.fds)) };
+        ensures most { most (cells self.old) (length bytes.old) (Ok (result.bytes, result.fds)) };
 
     fn view(&self, place: usize) -> Option<CellView>
         ensures { result ≡ seen_at (cells self.now) place };
 
-    ghost refused: { (cells : List Cell) (asked : ℕ) (why : Refusal) → promise cells asked (Err why) };
+    ghost refused: { (cells : List Cell) (asked : ℕ) (why : Refusal) → most cells asked (Err why) };
 }

@@ -59,7 +59,7 @@ impl<S: Store> Line for Stored<S> {
     fn receive(&mut self, bytes: &mut [u8], fds: &mut [OwnedFd]) -> Result<(usize, usize), Refusal>
         ensures received { Received limits (stored_state self.old) bytes.old fds.old result bytes.new fds.new (stored_state self.new) }
         ensures chosen { ReceivedBy S.choices (stored_state self.old) (length bytes.old) result (stored_state self.new) }
-        ensures promise { S.promise (stored_state self.old).cells (length bytes.old) result }
+        ensures most { S.most (stored_state self.old).cells (length bytes.old) result }
     {
         check_receive(self.store.len(), self.shut, bytes.len(), fds.len())?;
         let share = self.store.give(bytes, fds);

@@ -28,4 +28,4 @@ returns c =
     let ob = ap (λ (y : List ℕ). y ++ drop share.bytes c.args.bytes.now) (c.take.ensures.taken ∙ ap (λ (n : ℕ). take n q.bytes) nb) in
     let of = ap (λ (y : List OwnedFd). y ++ drop share.fds c.args.fds.now) (c.take-2.ensures.taken ∙ ap (λ (n : ℕ). take n q.fds) nf) in
     let all = gone q.bytes q.marks q.fds c.self.invariant.0 c.self.invariant.1 limits (length c.args.bytes.now) share c.take-share.new.self c.take-share.ensures c.take.new.self c.take-2.new.self eb ef c.args.self.now c.self.view_is c.args.bytes.now _ c.args.fds.now _ refl c.requires ob of in
-    record { gone = all; promise = gives_most limits c.args.self.now (length c.args.bytes.now) share.bytes all.chosen }
+    record { gone = all; most = gives_most limits c.args.self.now (length c.args.bytes.now) share.bytes all.chosen }
