@@ -1,5 +1,5 @@
 -- Laws of marks: the counts that they stand for, and what is left when some are gone.
-use Rattle.std.proofs.Common.{◌≡◌, ℕ, zero, suc, ◌+◌, ◌-◌, ◌<◌, ◌≤◌, min, Bool, true, ◌&&◌, ltb, leb, ◌⊎◌, List, [], ◌∷◌, ◌++◌, length, get_or, take, drop, replicate, Some, sum, sym, refl, ap, ◌∙◌, ⊎_elim, add_assoc, arith, subst, take-add}
+use Rattle.std.proofs.Common.{◌≡◌, ℕ, zero, suc, ◌+◌, ◌-◌, ◌<◌, ◌≤◌, min, Bool, true, ◌&&◌, ltb, leb, ◌⊎◌, List, [], ◌∷◌, ◌++◌, length, get_or, take, drop, set, replicate, Some, sum, sym, refl, ap, ◌∙◌, ⊎_elim, add_assoc, arith, subst, take-add}
 use Rattle.std.proofs.lemmas.List.{append_assoc, drop-append-le, take-append-le, drop_at, take_at, drop-drop, drop_more, drop-replicate, take-replicate, length-append, length-replicate, length-drop, replicate-append-replicate, get_or_append_left, get_or-append_right, get_or-replicate, get_or_past, get_or_at}
 use Rattle.std.proofs.lemmas.Option.{slice_get_within, get_or_from_slice_get}
 use Rattle.std.specs.List.{slice_get}
@@ -52,13 +52,13 @@ sum_plain n (m ∷ ms) tail h =
     ∙ ap sum (take-append-le n (replicate m.gap 0) (m.fds ∷ counts ms tail) l ∙ take-replicate n m.gap 0 h)
     ∙ sum_none n
 
-pub drop_tail : (n tail : ℕ) → counts [] (tail - n) ≡ drop n (counts [] tail)
+drop_tail : (n tail : ℕ) → counts [] (tail - n) ≡ drop n (counts [] tail)
 drop_tail n tail = sym (drop-replicate n tail 0)
 
 abbrev pub shorter : ℕ → Mark → Mark
 shorter n m = record { gap = m.gap - n; fds = m.fds }
 
-pub drop_gap : (n : ℕ) (m : Mark) (ms : List Mark) (tail : ℕ) → n ≤ m.gap → counts (shorter n m ∷ ms) tail ≡ drop n (counts (m ∷ ms) tail)
+drop_gap : (n : ℕ) (m : Mark) (ms : List Mark) (tail : ℕ) → n ≤ m.gap → counts (shorter n m ∷ ms) tail ≡ drop n (counts (m ∷ ms) tail)
 drop_gap n m ms tail h =
     let l : n ≤ length (replicate m.gap 0) = omega (arith, length-replicate {A = ℕ} m.gap 0) in
     counts_cons (shorter n m) ms tail
@@ -93,12 +93,22 @@ plain_inside (m ∷ ms) tail =
     omega (arith, ap length (counts_cons m ms tail) ∙ length-append (replicate m.gap 0) (m.fds ∷ counts ms tail), length-replicate {A = ℕ} m.gap 0)
 
 -- the first mark, if there is one
-pub first_mark : (ms : List Mark) (m : Mark) → slice_get ms 0 ≡ Some m → ms ≡ m ∷ drop 1 ms
+first_mark : (ms : List Mark) (m : Mark) → slice_get ms 0 ≡ Some m → ms ≡ m ∷ drop 1 ms
 first_mark ms m e = drop_more ms 0 m (slice_get_within ms 0 m e) ∙ ap (λ y. y ∷ drop 1 ms) (get_or_from_slice_get ms 0 m m e)
 
-pub no_mark : (ms : List Mark) → ((m : Mark) → slice_get ms 0 ≡ Some m → ⊥) → ms ≡ []
+no_mark : (ms : List Mark) → ((m : Mark) → slice_get ms 0 ≡ Some m → ⊥) → ms ≡ []
 no_mark [] h = refl
 no_mark (m ∷ ms) h = absurd (h m refl)
+
+stop_most : (d b : ℕ) (m : Mark) (ms : List Mark) (tail : ℕ) → (b ≤ m.gap) ⊎ (d < m.fds) → most d b (counts (m ∷ ms) tail) ≡ min b m.gap
+stop_most d b m ms tail s = ap (most d b) (counts_cons m ms tail) ∙ most_stop m.gap d b m.fds (counts ms tail) s
+
+-- where cells wait, one at least is given
+some_given : (d asked : ℕ) (ms : List Mark) (tail : ℕ) → carrying d ms ≡ true → 0 < asked → 0 < length (counts ms tail) → 0 < most d asked (counts ms tail)
+some_given d asked [] tail c h l = omega (arith, most_tail tail d asked, length-replicate {A = ℕ} tail 0)
+some_given d asked (m ∷ ms) tail c h l =
+    let few : m.fds ≤ d = leb-true m.fds d (and_parts (ltb 0 m.fds) (leb m.fds d) (and_parts (good d m) (carrying d ms) c).0).1 in
+    subst (λ y. 0 < most d asked y) (sym (counts_cons m ms tail)) (some_first m.gap d asked m.fds (counts ms tail) h few)
 
 -- what was passed so far: so many bytes and duplicates of the counts, so that these marks and the tail are left
 pub record Passing (d asked : ℕ) (all : List ℕ) (ms : List Mark) (tail bytes fds : ℕ) : Type 0 where
@@ -107,12 +117,13 @@ pub record Passing (d asked : ℕ) (all : List ℕ) (ms : List Mark) (tail bytes
   pub few : fds ≤ d
   pub carried : fds ≡ sum (take bytes all)
   pub carrying : carrying d ms ≡ true
+  pub some : 0 < asked → 0 < length all → 0 < most d asked all
   pub rest : counts ms tail ≡ drop bytes all
   pub most : most d asked all ≡ bytes + most (d - fds) (asked - bytes) (counts ms tail)
 
 module _ (d asked : ℕ) (all : List ℕ) (tail bytes fds : ℕ) where
   -- a whole mark is passed
-  pub passing_more : (m : Mark) (ms : List Mark) → Passing d asked all (m ∷ ms) tail bytes fds → m.gap < asked - bytes → m.fds ≤ d - fds → Passing d asked all ms tail (bytes + (m.gap + 1)) (fds + m.fds)
+  passing_more : (m : Mark) (ms : List Mark) → Passing d asked all (m ∷ ms) tail bytes fds → m.gap < asked - bytes → m.fds ≤ d - fds → Passing d asked all ms tail (bytes + (m.gap + 1)) (fds + m.fds)
   passing_more m ms p g k =
       let left : drop (bytes + (m.gap + 1)) all ≡ counts ms tail =
       sym (drop-drop (m.gap + 1) bytes all) ∙ ap (drop (m.gap + 1)) (sym p.rest) ∙ counts_pass m ms tail in
@@ -131,6 +142,7 @@ module _ (d asked : ℕ) (all : List ℕ) (tail bytes fds : ℕ) where
             ∙ sym (sum_append (take bytes all) (take (m.gap + 1) (drop bytes all)))
             ∙ ap sum (sym (take-add bytes (m.gap + 1) all));
         carrying = (and_parts (good d m) (carrying d ms) p.carrying).1;
+        some = p.some;
         rest = sym left;
         most =
             p.most
@@ -159,10 +171,10 @@ module _ (d asked : ℕ) (all : List ℕ) (tail bytes fds : ℕ) where
     whole : most (d - fds) (asked - bytes) (counts ms tail) ≡ min (asked - bytes) (plain ms tail) → bytes + r ≡ most d asked all
     whole e = sym (p.most ∙ ap (λ y. bytes + y) (e ∙ sym c))
 
-    pub taken : (0 < asked → 0 < length all → 0 < most d asked all) → most (d - fds) (asked - bytes) (counts ms tail) ≡ min (asked - bytes) (plain ms tail) → (left : List ℕ) → left ≡ drop r (counts ms tail) → Taken d asked all (record { bytes = bytes + r; fds = fds }) left
-    taken s e left is = record {
+    taken : most (d - fds) (asked - bytes) (counts ms tail) ≡ min (asked - bytes) (plain ms tail) → (left : List ℕ) → left ≡ drop r (counts ms tail) → Taken d asked all (record { bytes = bytes + r; fds = fds }) left
+    taken e left is = record {
       bytes = whole e;
-      some = λ h l. omega (arith, s h l, whole e);
+      some = λ h l. omega (arith, p.some h l, whole e);
       fds = taken_fds;
       few = p.few;
       wanted = omega (arith, p.wanted);
@@ -170,15 +182,55 @@ module _ (d asked : ℕ) (all : List ℕ) (tail bytes fds : ℕ) where
       after = is ∙ ap (drop r) p.rest ∙ drop-drop r bytes all;
     }
 
-pub stop_most : (d b : ℕ) (m : Mark) (ms : List Mark) (tail : ℕ) → (b ≤ m.gap) ⊎ (d < m.fds) → most d b (counts (m ∷ ms) tail) ≡ min b m.gap
-stop_most d b m ms tail s = ap (most d b) (counts_cons m ms tail) ∙ most_stop m.gap d b m.fds (counts ms tail) s
+-- nothing is passed yet
+pub not_passed : (d asked : ℕ) (ms : List Mark) (tail : ℕ) (all : List ℕ) → carrying d ms ≡ true → counts ms tail ≡ all → Passing d asked all ms tail 0 0
+not_passed d asked ms tail all c e =
+    let z : d ≡ d - 0 = omega arith in
+    let a : asked ≡ asked - 0 = omega arith in
+    record {
+      wanted = omega arith;
+      there = omega arith;
+      few = omega arith;
+      carried = refl;
+      carrying = c;
+      some = λ h l. subst (λ y. 0 < most d asked y) e (some_given d asked ms tail c h (omega (arith, l, ap length e)));
+      rest = e;
+      most =
+          ap (most d asked) (sym e)
+          ∙ ap (λ y. most y asked (counts ms tail)) z
+          ∙ ap (λ y. most (d - 0) y (counts ms tail)) a
+          ∙ (let y : most (d - 0) (asked - 0) (counts ms tail) ≡ 0 + most (d - 0) (asked - 0) (counts ms tail) = omega arith in y);
+    }
 
--- where cells wait, one at least is given
-pub some_given : (d asked : ℕ) (ms : List Mark) (tail : ℕ) → carrying d ms ≡ true → 0 < asked → 0 < length (counts ms tail) → 0 < most d asked (counts ms tail)
-some_given d asked [] tail c h l = omega (arith, most_tail tail d asked, length-replicate {A = ℕ} tail 0)
-some_given d asked (m ∷ ms) tail c h l =
-    let few : m.fds ≤ d = leb-true m.fds d (and_parts (ltb 0 m.fds) (leb m.fds d) (and_parts (good d m) (carrying d ms) c).0).1 in
-    subst (λ y. 0 < most d asked y) (sym (counts_cons m ms tail)) (some_first m.gap d asked m.fds (counts ms tail) h few)
+-- how the walk over the marks goes on
+module _ (d asked : ℕ) (all : List ℕ) (ms : List Mark) (tail bytes fds : ℕ) (p : Passing d asked all ms tail bytes fds) where
+  module _ (m : Mark) (e : slice_get ms 0 ≡ Some m) where
+    first : Passing d asked all (m ∷ drop 1 ms) tail bytes fds
+    first = subst (λ y. Passing d asked all y tail bytes fds) (first_mark ms m e) p
+
+    -- the first mark is given whole
+    pub passed : (left : List Mark) → left ≡ drop 1 ms → m.gap < asked - bytes → m.fds ≤ d - fds → Passing d asked all left tail (bytes + (m.gap + 1)) (fds + m.fds)
+    passed left is g k = subst (λ y. Passing d asked all y tail (bytes + (m.gap + 1)) (fds + m.fds)) (sym is) (passing_more d asked all tail bytes fds m (drop 1 ms) first g k)
+
+    -- it is not, and some of its plain bytes are given
+    module _ (r : ℕ) (left : List Mark) (is : left ≡ set ms 0 (shorter r m)) where
+      now : left ≡ shorter r m ∷ drop 1 ms
+      now = is ∙ ap (λ y. set y 0 (shorter r m)) (first_mark ms m e)
+
+      pub still_carrying : carrying d left ≡ true
+      still_carrying = subst (λ y. carrying d y ≡ true) (sym now) first.carrying
+
+      pub stopped : r ≡ min (asked - bytes) m.gap → (asked - bytes ≤ m.gap) ⊎ (d - fds < m.fds) → Taken d asked all (record { bytes = bytes + r; fds = fds }) (counts left tail)
+      stopped c s =
+          taken d asked all tail bytes fds (m ∷ drop 1 ms) first r c (stop_most (d - fds) (asked - bytes) m (drop 1 ms) tail s) (counts left tail)
+          (ap (λ y. counts y tail) now ∙ drop_gap r m (drop 1 ms) tail (omega arith))
+
+  -- there is no mark, and some of the tail is given
+  pub ended : ((m : Mark) → slice_get ms 0 ≡ Some m → ⊥) → (r : ℕ) → r ≡ min (asked - bytes) tail → Taken d asked all (record { bytes = bytes + r; fds = fds }) (counts ms (tail - r))
+  ended h r c =
+      let none : ms ≡ [] = no_mark ms h in
+      taken d asked all tail bytes fds [] (subst (λ y. Passing d asked all y tail bytes fds) none p) r c (most_tail tail (d - fds) (asked - bytes)) (counts ms (tail - r))
+      (ap (λ y. counts y (tail - r)) none ∙ drop_tail r tail)
 
 -- what the byte at a place carries
 module _ (m : Mark) (ms : List Mark) (tail place : ℕ) where

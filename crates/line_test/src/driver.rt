@@ -147,12 +147,7 @@ impl<L: Line + Hosted> Driver<L> {
     }
 
     // Sends so many bytes, and receives where the line takes no more, until it has taken all.
-    fn carry(
-        &mut self,
-        rt: &impl Abort,
-        mut bytes: usize,
-        mut fds: usize,
-    ) -> Result<(), Fail> {
+    fn carry(&mut self, rt: &impl Abort, mut bytes: usize, mut fds: usize) -> Result<(), Fail> {
         let step = self.step;
         for _ in 0..10_000 {
             match self.send(bytes, fds) {
