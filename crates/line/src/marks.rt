@@ -49,6 +49,7 @@ impl Marks {
         }
     }
 
+    #[tactic(auto, using(crate::proofs::Marking::carrying_length, crate::proofs::Marking::carrying_push, crate::proofs::Marking::counts_push, crate::proofs::Marking::noted_plain))]
     // New bytes came, the first of them with so many duplicates.
     pub(crate) fn note(&mut self, bytes: usize, fds: usize)
         requires some { 0 < bytes }

@@ -77,6 +77,7 @@ impl<T: Copy, const N: usize> Queue<T, N> {
     }
 
     // Puts items behind those that are there, in two copies at most.
+    #[tactic(auto, using(crate::proofs::Queues::length_held, crate::proofs::Queues::queued_on))]
     pub(crate) fn put(&mut self, new: &[T])
         requires { length self.old + length new.now ≤ N }
         ensures { self.new ≡ self.old ++ new.now }
@@ -100,6 +101,7 @@ impl<T: Copy, const N: usize> Queue<T, N> {
         self.remove_first(n);
     }
 
+    #[tactic(auto, using(crate::proofs::Queues::length_held, crate::proofs::Queues::held_rest))]
     pub(crate) fn remove_first(&mut self, n: usize)
         requires { n ≤ length self.old }
         ensures { self.new ≡ drop n self.old }
@@ -119,6 +121,7 @@ impl<T: Copy, const N: usize> Queue<T, N> {
     }
 
     // Puts an item in the place of the first one.
+    #[tactic(auto, using(crate::proofs::Queues::length_held, crate::proofs::Queues::held_set))]
     pub(crate) fn set_first(&mut self, item: T)
         requires { 0 < length self.old }
         ensures { self.new ≡ slice_set self.old 0 item }
@@ -128,6 +131,7 @@ impl<T: Copy, const N: usize> Queue<T, N> {
     }
 
     // The items in the two parts in which they lie.
+    #[tactic(auto, using(crate::proofs::Queues::first_items))]
     fn parts(&self) -> (&[T], &[T])
         ensures { self.now ≡ result.0.now ++ result.1.now }
     {
