@@ -1,4 +1,4 @@
-use Rattle.std.proofs.Common.{◌-◌, sym, ◌∙◌, inl, inr, arith}
+use Rattle.std.proofs.Common.{sym, ◌∙◌, inl, inr, arith}
 use Rattle.protocol.specs.Limits.{limits}
 use Rattle.line.proofs.Marking.{not_passed, passed, still_carrying, stopped, ended}
 use Rattle.line.proofs.marks.Marks.take.Goals as goal
