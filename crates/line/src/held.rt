@@ -1,10 +1,5 @@
-ghost use Rattle.std.specs.Prelude.{◌≡◌, ℕ, ◌<◌, ◌≤◌, [], ◌++◌, length, Ok};
 ghost use Rattle.protocol.specs.Limits.{limits};
-ghost use Rattle.line.specs.Checks.{Receivable};
-ghost use Rattle.line.specs.Choices.{Gone};
-ghost use Rattle.line.specs.Line.{cells_of};
 ghost use Rattle.line.specs.Parcel.{parcel_choices};
-ghost use Rattle.line.specs.Seen.{seen_at};
 
 use crate::queue::Queue;
 use crate::share::Share;

@@ -150,6 +150,7 @@ impl<L: Line + Hosted> Driver<L> {
     fn carry(&mut self, rt: &impl Abort, mut bytes: usize, mut fds: usize) -> Result<(), Fail> {
         let step = self.step;
         for _ in 0..10_000 {
+            // a line that takes no more is no failure here, so `?` does not do
             match self.send(bytes, fds) {
                 Ok(n) => {
                     bytes = bytes.saturating_sub(n);
