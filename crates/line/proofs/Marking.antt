@@ -4,7 +4,7 @@ use Rattle.std.proofs.lemmas.List.{append_assoc, drop-append-le, take-append-le,
 use Rattle.std.proofs.lemmas.Option.{slice_get_within, get_or_from_slice_get}
 use Rattle.std.specs.List.{slice_get}
 use Rattle.std.proofs.lemmas.Bool.{and_parts, and_from, ltb-true, leb-true, lt-ltb, le-leb, cases_lt}
-use Rattle.line.specs.Marks.{spread, counts, carrying, plain, Taken}
+use Rattle.line.specs.Marks.{spread, counts, carrying, Taken}
 use Rattle.line.specs.Counted.{most}
 use Rattle.line.specs.declared.marks.Mark.{Mark}
 use Rattle.line.proofs.Most.{sum_cons, sum_append, sum_none, most_pass, most_stop, most_tail, some_first}
@@ -42,6 +42,11 @@ sum_pass m ms tail =
     ap sum (ap (take (m.gap + 1)) (counts_parts m ms tail) ∙ take_at (replicate m.gap 0 ++ (m.fds ∷ [])) (counts ms tail) (m.gap + 1) (length_gap m))
     ∙ sum_append (replicate m.gap 0) (m.fds ∷ [])
     ∙ omega (arith, sum_none m.gap, sum_cons m.fds [])
+
+-- the bytes without duplicates at the front
+abbrev plain : List Mark → ℕ → ℕ
+plain [] tail = tail
+plain (m ∷ ms) tail = m.gap
 
 -- some of the plain bytes at the front are gone
 pub sum_plain : (n : ℕ) (ms : List Mark) (tail : ℕ) → n ≤ plain ms tail → sum (take n (counts ms tail)) ≡ 0

@@ -18,11 +18,6 @@ abbrev pub carrying : ℕ → List Mark → Bool
 carrying d [] = true
 carrying d (m ∷ ms) = (nat_lt 0 m.fds && nat_le m.fds d) && carrying d ms
 
--- the bytes without duplicates at the front
-abbrev pub plain : List Mark → ℕ → ℕ
-plain [] tail = tail
-plain (m ∷ ms) tail = m.gap
-
 -- what is taken of the counts, where so many bytes are asked for, with d duplicates at most: as much as may be given
 pub record Taken (d asked : ℕ) (all : List ℕ) (share : Share) (left : List ℕ) : Type 0 where
   pub bytes : share.bytes ≡ most d asked all

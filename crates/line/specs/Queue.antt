@@ -6,6 +6,7 @@ use borrow.Rule.Slice.PartMut.{put_mid}
 abbrev pub turned : {X : Type 0} → ℕ → List X → List X
 turned head slots = drop head slots ++ take head slots
 
+-- the items: the first len of these
 abbrev pub held : {X : Type 0} → List X → ℕ → ℕ → List X
 held slots head len = take len (turned head slots)
 
