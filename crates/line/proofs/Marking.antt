@@ -1,8 +1,9 @@
 -- Laws of marks: the counts that they stand for, and what is left when some are gone.
 use Rattle.std.proofs.Common.{◌≡◌, ℕ, zero, suc, ◌+◌, ◌-◌, ◌<◌, ◌≤◌, min, Bool, true, ◌&&◌, ltb, leb, ◌⊎◌, List, [], ◌∷◌, ◌++◌, length, get_or, take, drop, set, replicate, Some, sum, sym, refl, ap, ◌∙◌, ⊎_elim, add_assoc, arith, subst, take-add}
-use Rattle.std.proofs.lemmas.List.{append_assoc, drop-append-le, take-append-le, drop_at, take_at, drop-drop, drop_more, drop-replicate, take-replicate, length-append, length-replicate, length-drop, replicate-append-replicate, get_or_append_left, get_or-append_right, get_or-replicate, get_or_past, get_or_at}
+use Rattle.std.proofs.lemmas.List.{append_assoc, drop-append-le, take-append-le, drop_at, take_at, drop-drop, drop_more, drop-replicate, take-replicate, length-append, length-replicate, length-drop, replicate-append-replicate, same_lists, get_or_append_left, get_or-append_right, get_or-replicate, get_or_past, get_or_at}
 use Rattle.std.proofs.lemmas.Option.{slice_get_within, get_or_from_slice_get}
 use Rattle.std.specs.List.{slice_get}
+use Rattle.std.proofs.lemmas.Grind.{common_steps}
 use Rattle.std.proofs.lemmas.Bool.{and_parts, and_from, ltb-true, leb-true, lt-ltb, le-leb, cases_lt}
 use Rattle.line.specs.Marks.{spread, counts, carrying, Taken}
 use Rattle.line.specs.Counted.{most}
@@ -13,16 +14,9 @@ use Rattle.line.proofs.Most.{sum_cons, sum_append, sum_none, most_pass, most_sto
 pub counts_more : (ms : List Mark) (tail n : ℕ) → counts ms (tail + n) ≡ counts ms tail ++ replicate n 0
 counts_more ms tail n = ap (λ y. spread ms ++ y) (sym (replicate-append-replicate tail n 0)) ∙ sym (append_assoc (spread ms) (replicate tail 0) (replicate n 0))
 
-spread_push : (ms : List Mark) (m : Mark) → spread (ms ++ m ∷ []) ≡ spread ms ++ (replicate m.gap 0 ++ (m.fds ∷ []))
-spread_push [] m = refl
-spread_push (x ∷ ms) m =
-    ap (λ y. replicate x.gap 0 ++ (x.fds ∷ y)) (spread_push ms m)
-    ∙ sym (append_assoc (replicate x.gap 0) (x.fds ∷ spread ms) (replicate m.gap 0 ++ (m.fds ∷ [])))
-
 pub counts_push : (ms : List Mark) (m : Mark) (tail : ℕ) → counts (ms ++ m ∷ []) tail ≡ counts ms m.gap ++ (m.fds ∷ replicate tail 0)
-counts_push ms m tail =
-    ap (λ y. y ++ replicate tail 0) (spread_push ms m ∙ sym (append_assoc (spread ms) (replicate m.gap 0) (m.fds ∷ [])))
-    ∙ append_assoc (counts ms m.gap) (m.fds ∷ []) (replicate tail 0)
+counts_push [] m tail = grind (arith, common_steps)
+counts_push (x ∷ ms) m tail = grind (arith, common_steps, counts_push ms m tail)
 
 -- the counts of a first mark, and those behind it
 counts_cons : (m : Mark) (ms : List Mark) (tail : ℕ) → counts (m ∷ ms) tail ≡ replicate m.gap 0 ++ (m.fds ∷ counts ms tail)
@@ -50,12 +44,8 @@ plain (m ∷ ms) tail = m.gap
 
 -- some of the plain bytes at the front are gone
 pub sum_plain : (n : ℕ) (ms : List Mark) (tail : ℕ) → n ≤ plain ms tail → sum (take n (counts ms tail)) ≡ 0
-sum_plain n [] tail h = ap sum (take-replicate n tail 0 h) ∙ sum_none n
-sum_plain n (m ∷ ms) tail h =
-    let l : n ≤ length (replicate m.gap 0) = omega (arith, length-replicate {A = ℕ} m.gap 0) in
-    ap (λ y. sum (take n y)) (counts_cons m ms tail)
-    ∙ ap sum (take-append-le n (replicate m.gap 0) (m.fds ∷ counts ms tail) l ∙ take-replicate n m.gap 0 h)
-    ∙ sum_none n
+sum_plain n [] tail h = grind (arith, common_steps, sum_none n)
+sum_plain n (m ∷ ms) tail h = grind (arith, common_steps, counts_cons m ms tail, sum_none n)
 
 drop_tail : (n tail : ℕ) → counts [] (tail - n) ≡ drop n (counts [] tail)
 drop_tail n tail = sym (drop-replicate n tail 0)
@@ -65,11 +55,9 @@ shorter n m = record { gap = m.gap - n; fds = m.fds }
 
 drop_gap : (n : ℕ) (m : Mark) (ms : List Mark) (tail : ℕ) → n ≤ m.gap → counts (shorter n m ∷ ms) tail ≡ drop n (counts (m ∷ ms) tail)
 drop_gap n m ms tail h =
-    let l : n ≤ length (replicate m.gap 0) = omega (arith, length-replicate {A = ℕ} m.gap 0) in
-    counts_cons (shorter n m) ms tail
-    ∙ ap (λ y. y ++ (m.fds ∷ counts ms tail)) (sym (drop-replicate n m.gap 0))
-    ∙ sym (drop-append-le n (replicate m.gap 0) (m.fds ∷ counts ms tail) l)
-    ∙ ap (drop n) (sym (counts_cons m ms tail))
+    let was = counts_cons m ms tail in
+    let is = counts_cons (shorter n m) ms tail in
+    same_lists _ _ (grind (arith, common_steps, was, is)) (λ i d o. grind (arith, common_steps, was, is))
 
 -- every mark carries a duplicate, and no more than d
 abbrev good : ℕ → Mark → Bool
@@ -92,10 +80,9 @@ carrying_length d (m ∷ ms) tail c =
     let l : length (m ∷ ms) ≡ suc (length ms) = refl in
     omega arith
 
-pub plain_inside : (ms : List Mark) (tail : ℕ) → plain ms tail ≤ length (counts ms tail)
-plain_inside [] tail = omega (arith, length-replicate {A = ℕ} tail 0)
-plain_inside (m ∷ ms) tail =
-    omega (arith, ap length (counts_cons m ms tail) ∙ length-append (replicate m.gap 0) (m.fds ∷ counts ms tail), length-replicate {A = ℕ} m.gap 0)
+plain_inside : (ms : List Mark) (tail : ℕ) → plain ms tail ≤ length (counts ms tail)
+plain_inside [] tail = grind (arith, common_steps)
+plain_inside (m ∷ ms) tail = grind (arith, common_steps, counts_cons m ms tail)
 
 -- the first mark, if there is one
 first_mark : (ms : List Mark) (m : Mark) → slice_get ms 0 ≡ Some m → ms ≡ m ∷ drop 1 ms
@@ -133,8 +120,7 @@ module _ (d asked : ℕ) (all : List ℕ) (tail bytes fds : ℕ) where
       let left : drop (bytes + (m.gap + 1)) all ≡ counts ms tail =
       sym (drop-drop (m.gap + 1) bytes all) ∙ ap (drop (m.gap + 1)) (sym p.rest) ∙ counts_pass m ms tail in
       let long : length all - bytes ≡ m.gap + 1 + length (counts ms tail) =
-      sym (length-drop bytes all) ∙ ap length (sym p.rest ∙ counts_parts m ms tail) ∙ length-append (replicate m.gap 0 ++ (m.fds ∷ [])) (counts ms tail)
-      ∙ ap (λ y. y + length (counts ms tail)) (length_gap m) in
+      sym (length-drop bytes all) ∙ ap length (sym p.rest ∙ counts_cons m ms tail) ∙ grind (arith, common_steps) in
       let less : d - fds - m.fds ≡ d - (fds + m.fds) = omega arith in
       let b : asked - bytes - (m.gap + 1) ≡ asked - (bytes + (m.gap + 1)) = omega arith in
       record {
@@ -240,27 +226,16 @@ module _ (d asked : ℕ) (all : List ℕ) (ms : List Mark) (tail bytes fds : ℕ
 -- what the byte at a place carries
 module _ (m : Mark) (ms : List Mark) (tail place : ℕ) where
   pub at_gap : place < m.gap → 0 ≡ get_or (counts (m ∷ ms) tail) place 0
-  at_gap h =
-      sym (ap (λ y. get_or y place 0) (counts_cons m ms tail)
-      ∙ get_or_append_left (replicate m.gap 0) (m.fds ∷ counts ms tail) 0 place (omega (arith, length-replicate {A = ℕ} m.gap 0))
-      ∙ get_or-replicate m.gap place 0 0 h)
+  at_gap h = grind (arith, common_steps, counts_cons m ms tail)
 
   pub at_mark : place ≡ m.gap → m.fds ≡ get_or (counts (m ∷ ms) tail) place 0
-  at_mark h =
-      sym (ap (λ y. get_or y place 0) (counts_cons m ms tail)
-      ∙ ap (λ y. get_or (replicate m.gap 0 ++ (m.fds ∷ counts ms tail)) y 0) h
-      ∙ get_or_at (replicate m.gap 0) m.fds (counts ms tail) 0 m.gap (length-replicate m.gap 0))
+  at_mark h = grind (arith, common_steps, counts_cons m ms tail)
 
   pub at_rest : m.gap < place → get_or (counts (m ∷ ms) tail) place 0 ≡ get_or (counts ms tail) (place - (m.gap + 1)) 0
-  at_rest h =
-      ap (λ y. get_or y place 0) (counts_parts m ms tail)
-      ∙ get_or-append_right (replicate m.gap 0 ++ (m.fds ∷ [])) (counts ms tail) (m.gap + 1) place 0 (length_gap m) (omega arith)
+  at_rest h = grind (arith, common_steps, counts_cons m ms tail)
 
 pub at_tail : (tail place : ℕ) → 0 ≡ get_or (counts [] tail) place 0
-at_tail tail place = ⊎_elim
-    (λ (h : place < tail). sym (get_or-replicate tail place 0 0 h))
-    (λ (h : tail ≤ place). sym (get_or_past (replicate tail 0) place 0 (omega (arith, length-replicate {A = ℕ} tail 0))))
-    (cases_lt place tail)
+at_tail tail place = grind (arith, common_steps)
 
 zero_front : (n f : ℕ) → 0 < n → f ≡ 0 → replicate n 0 ≡ f ∷ replicate (n - 1) 0
 zero_front zero f h e = absurd (omega arith)
