@@ -27,52 +27,24 @@ most_over d b k cs l = cond-false _ _ _ (and_right _ _ (lt-leb k d l))
 
 -- past bytes that carry nothing
 most_plain : (g d b : ℕ) (cs : List ℕ) → g ≤ b → most d b (replicate g 0 ++ cs) ≡ g + most d (b - g) cs
-most_plain zero d b cs h = let z : b - 0 ≡ b = omega arith in ap (λ y. most d y cs) (sym z) ∙ (let y : most d (b - 0) cs ≡ 0 + most d (b - 0) cs = omega arith in y)
-most_plain (suc g) d b cs h =
-    let z : d - 0 ≡ d = omega arith in
-    let w : b - 1 - g ≡ b - suc g = omega arith in
-    most_next d b 0 (replicate g 0 ++ cs) (omega arith) (omega arith)
-    ∙ ap (λ y. suc (most y (b - 1) (replicate g 0 ++ cs))) z
-    ∙ ap suc (most_plain g d (b - 1) cs (omega arith))
-    ∙ ap (λ y. suc (g + most d y cs)) w
-    ∙ (let y : suc (g + most d (b - suc g) cs) ≡ suc g + most d (b - suc g) cs = omega arith in y)
+most_plain zero d b cs h = grind arith
+most_plain (suc g) d b cs h = grind (arith, most_next d b 0 (replicate g 0 ++ cs), most_plain g d (b - 1) cs)
 
 most_short : (g d b : ℕ) (cs : List ℕ) → b ≤ g → most d b (replicate g 0 ++ cs) ≡ b
-most_short g d b cs h =
-    let z : b + (g - b) ≡ g = omega arith in
-    let w : b - b ≡ 0 = omega arith in
-    ap (λ y. most d b (replicate y 0 ++ cs)) (sym z)
-    ∙ ap (λ y. most d b (y ++ cs)) (sym (replicate-append-replicate b (g - b) 0))
-    ∙ ap (most d b) (append_assoc (replicate b 0) (replicate (g - b) 0) cs)
-    ∙ most_plain b d b (replicate (g - b) 0 ++ cs) (omega arith)
-    ∙ ap (λ y. b + most d y (replicate (g - b) 0 ++ cs)) w
-    ∙ ap (λ y. b + y) (most_none d (replicate (g - b) 0 ++ cs))
-    ∙ (let y : b + 0 ≡ b = omega arith in y)
+most_short zero d b cs h = grind (arith, most_none d cs)
+most_short (suc g) d zero cs h = most_none d (replicate (suc g) 0 ++ cs)
+most_short (suc g) d (suc b) cs h = grind (arith, most_next d (suc b) 0 (replicate g 0 ++ cs), most_short g d b cs)
 
 -- past a whole mark
 pub most_pass : (g d b k : ℕ) (cs : List ℕ) → g < b → k ≤ d → most d b (replicate g 0 ++ (k ∷ cs)) ≡ g + 1 + most (d - k) (b - (g + 1)) cs
-most_pass g d b k cs h l =
-    let w : b - g - 1 ≡ b - (g + 1) = omega arith in
-    most_plain g d b (k ∷ cs) (omega arith)
-    ∙ ap (λ y. g + y) (most_next d (b - g) k cs (omega arith) l)
-    ∙ ap (λ y. g + suc (most (d - k) y cs)) w
-    ∙ (let y : g + suc (most (d - k) (b - (g + 1)) cs) ≡ g + 1 + most (d - k) (b - (g + 1)) cs = omega arith in y)
+most_pass g d b k cs h l = grind (arith, most_plain g d b (k ∷ cs), most_next d (b - g) k cs)
 
 -- a mark that is not given whole stops the giving
 pub most_stop : (g d b k : ℕ) (cs : List ℕ) → (b ≤ g) ⊎ (d < k) → most d b (replicate g 0 ++ (k ∷ cs)) ≡ min b g
-most_stop g d b k cs h = ⊎_elim
-    (λ (t : b < g). most_short g d b (k ∷ cs) (omega arith) ∙ (let y : b ≡ min b g = omega arith in y))
-    (λ (t : g ≤ b).
-    most_plain g d b (k ∷ cs) t
-    ∙ ap (λ y. g + y) (⊎_elim (λ (u : b ≤ g). (let w : b - g ≡ 0 = omega arith in ap (λ y. most d y (k ∷ cs)) w) ∙ most_none d (k ∷ cs)) (λ (u : d < k). most_over d (b - g) k cs u) h)
-    ∙ (let y : g + 0 ≡ min b g = omega arith in y))
-    (cases_lt b g)
+most_stop g d b k cs h = grind (arith, most_short g d b (k ∷ cs), most_plain g d b (k ∷ cs), most_none d (k ∷ cs), most_over d (b - g) k cs)
 
 pub most_tail : (t d b : ℕ) → most d b (replicate t 0) ≡ min b t
-most_tail t d b = ap (most d b) (sym (append-nil (replicate t 0))) ∙ ⊎_elim
-    (λ (l : b < t). most_short t d b [] (omega arith) ∙ (let y : b ≡ min b t = omega arith in y))
-    (λ (l : t ≤ b). most_plain t d b [] l ∙ (let y : t + 0 ≡ min b t = omega arith in y))
-    (cases_lt b t)
+most_tail t d b = ap (most d b) (sym (append-nil (replicate t 0))) ∙ grind (arith, most_short t d b [], most_plain t d b [])
 
 -- something is given of counts that begin with plain bytes and then one of at most d
 pub some_first : (g d b k : ℕ) (cs : List ℕ) → 0 < b → k ≤ d → 0 < most d b (replicate g 0 ++ (k ∷ cs))
