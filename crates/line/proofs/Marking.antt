@@ -1,10 +1,10 @@
 -- Laws of marks: the counts that they stand for, and what is left when some are gone.
-use Rattle.std.proofs.Common.{◌≡◌, ℕ, zero, suc, ◌+◌, ◌-◌, ◌<◌, ◌≤◌, min, Bool, true, ◌&&◌, ltb, leb, ◌⊎◌, List, [], ◌∷◌, ◌++◌, length, get_or, take, drop, set, replicate, Some, sum, sym, refl, ap, ◌∙◌, ⊎_elim, add_assoc, arith, subst, take-add}
-use Rattle.std.proofs.lemmas.List.{append_assoc, drop-append-le, take-append-le, drop_at, take_at, drop-drop, drop_more, drop-replicate, take-replicate, length-append, length-replicate, length-drop, replicate-append-replicate, same_lists, get_or_append_left, get_or-append_right, get_or-replicate, get_or_past, get_or_at}
+use Rattle.std.proofs.Common.{◌≡◌, ℕ, zero, suc, ◌+◌, ◌-◌, ◌<◌, ◌≤◌, min, Bool, true, ◌&&◌, ltb, leb, ◌⊎◌, List, [], ◌∷◌, ◌++◌, length, get_or, take, drop, set, replicate, Some, sum, sym, refl, ap, ◌∙◌, add_assoc, arith, subst, take-add}
+use Rattle.std.proofs.lemmas.List.{append_assoc, drop_at, take_at, drop-drop, drop_more, drop-replicate, length-append, length-replicate, length-drop, replicate-append-replicate, same_lists}
 use Rattle.std.proofs.lemmas.Option.{slice_get_within, get_or_from_slice_get}
 use Rattle.std.specs.List.{slice_get}
 use Rattle.std.proofs.lemmas.Grind.{common_steps}
-use Rattle.std.proofs.lemmas.Bool.{and_parts, and_from, ltb-true, leb-true, lt-ltb, le-leb, cases_lt}
+use Rattle.std.proofs.lemmas.Bool.{and_parts, and_from, ltb-true, leb-true, lt-ltb, le-leb}
 use Rattle.line.specs.Marks.{spread, counts, carrying, Taken}
 use Rattle.line.specs.Counted.{most}
 use Rattle.line.specs.declared.marks.Mark.{Mark}
