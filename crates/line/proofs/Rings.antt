@@ -57,50 +57,61 @@ module _ (bs ks : List ℕ) (fs : List OwnedFd) (l : length ks ≡ length bs) (t
         ∙ append_from bs new ks (length nf ∷ replicate (length new - 1) 0) fs nf l t
         ∙ ap (λ y. cells ++ y) (from_send new nf h)
 
-  -- the first cells are gone, with the duplicates on them
-  module _ (lim : Limits) (asked : ℕ) (share : Share) (ks' : List ℕ) (taken : Taken lim.descriptors asked ks share ks') (bs' : List ℕ) (fs' : List OwnedFd) (eb : bs' ≡ drop share.bytes bs) (ef : fs' ≡ drop share.fds fs) where
-    k_there : share.fds ≤ length fs
-    k_there = omega (arith, taken.fds, sum_by-take-le (λ x. x) ks share.bytes)
+  -- the first cells are gone, with the duplicates on them: they went to the front of the caller's buffers
+  module _ (lim : Limits) (all : List Cell) (e : cells ≡ all) (out : List ℕ) (fout : List OwnedFd) (r : Receivable lim (length all) (length out) (length fout)) (share : Share) (ks' : List ℕ) (taken : Taken lim.descriptors (length out) ks share ks')
+      (bs' : List ℕ) (fs' : List OwnedFd) (eb : bs' ≡ drop (length (take share.bytes out)) bs) (ef : fs' ≡ drop (length (take share.fds fout)) fs) where
+    bytes_long : length (take share.bytes out) ≡ share.bytes
+    bytes_long = length-take-le share.bytes out taken.wanted
+
+    fds_long : length (take share.fds fout) ≡ share.fds
+    fds_long = length-take-le share.fds fout (omega (arith, taken.few, r.1))
+
+    fds_there : share.fds ≤ length fs
+    fds_there = omega (arith, taken.fds, sum_by-take-le (λ x. x) ks share.bytes)
+
+    bytes_left : bs' ≡ drop share.bytes bs
+    bytes_left = eb ∙ ap (λ n. drop n bs) bytes_long
+
+    fds_left : fs' ≡ drop share.fds fs
+    fds_left = ef ∙ ap (λ n. drop n fs) fds_long
 
     pub give_counts : length ks' ≡ length bs'
-    give_counts = ap length taken.after ∙ length-drop share.bytes ks ∙ ap (λ y. y - share.bytes) l ∙ sym (ap length eb ∙ length-drop share.bytes bs)
+    give_counts = ap length taken.after ∙ length-drop share.bytes ks ∙ ap (λ y. y - share.bytes) l ∙ sym (ap length bytes_left ∙ length-drop share.bytes bs)
 
     pub give_sum : sum ks' ≡ length fs'
     give_sum =
         ap sum taken.after
         ∙ (let z : sum (drop share.bytes ks) ≡ length fs - share.fds = omega (arith, taken.fds, sum_append (take share.bytes ks) (drop share.bytes ks), ap sum (take-append-drop share.bytes ks)) in z)
-        ∙ sym (ap length ef ∙ length-drop share.fds fs)
+        ∙ sym (ap length fds_left ∙ length-drop share.fds fs)
 
     give_cells : cells_from bs' ks' fs' ≡ drop share.bytes cells
     give_cells =
-        ap (λ y. cells_from y ks' fs') eb ∙ ap (λ y. cells_from (drop share.bytes bs) y fs') taken.after ∙ ap (cells_from (drop share.bytes bs) (drop share.bytes ks)) (ef ∙ ap (λ y. drop y fs) taken.fds)
+        ap (λ y. cells_from y ks' fs') bytes_left ∙ ap (λ y. cells_from (drop share.bytes bs) y fs') taken.after ∙ ap (cells_from (drop share.bytes bs) (drop share.bytes ks)) (fds_left ∙ ap (λ y. drop y fs) taken.fds)
         ∙ sym (drop_from share.bytes bs ks fs l)
 
-    gone_here : (out out' : List ℕ) (fout fout' : List OwnedFd) → asked ≡ length out → Receivable lim (length cells) (length out) (length fout)
-        → out' ≡ take share.bytes bs ++ drop share.bytes out → fout' ≡ take share.fds fs ++ drop share.fds fout → Gone lim (ring_choices lim) cells out fout share.bytes share.fds out' fout' (cells_from bs' ks' fs')
-    gone_here out out' fout fout' a r ob of =
-        let given : fds_of (take share.bytes cells) ≡ take share.fds fs = fds_take share.bytes bs ks fs l ∙ ap (λ y. take y fs) (sym taken.fds) in
-        let count : share.fds ≡ length (fds_of (take share.bytes cells)) = sym (ap length given ∙ length-take-le share.fds fs k_there) in
-        let whole = length_from bs ks fs in
-        record {
-          chosen = taken.bytes ∙ ap (λ y. most lim.descriptors y ks) a ∙ ap (most lim.descriptors (length out)) (sym (counts_from bs ks fs l (omega arith)));
-          may = record {
-            some = taken.some (omega (arith, r.0)) (omega (arith, r.2));
-            wanted = omega (arith, taken.wanted);
-            there = omega (arith, taken.there);
-            few = omega (arith, taken.few);
-          };
-          count = count;
-          bytes = ob ∙ ap (λ y. y ++ drop share.bytes out) (sym (bytes_take share.bytes bs ks fs));
-          fds = of ∙ ap (λ y. y ++ drop share.fds fout) (sym given);
-          rest = give_cells;
-        }
+    given : fds_of (take share.bytes cells) ≡ take share.fds fs
+    given = fds_take share.bytes bs ks fs l ∙ ap (λ y. take y fs) (sym taken.fds)
 
-    pub gone : (all : List Cell) → cells ≡ all → (out out' : List ℕ) (fout fout' : List OwnedFd) → asked ≡ length out → Receivable lim (length all) (length out) (length fout)
-        → out' ≡ take share.bytes bs ++ drop share.bytes out → fout' ≡ take share.fds fs ++ drop share.fds fout → Gone lim (ring_choices lim) all out fout share.bytes share.fds out' fout' (cells_from bs' ks' fs')
-    gone all e out out' fout fout' a r ob of =
-        subst (λ y. Gone lim (ring_choices lim) y out fout share.bytes share.fds out' fout' (cells_from bs' ks' fs')) e
-        (gone_here out out' fout fout' a (subst (λ y. Receivable lim (length y) (length out) (length fout)) (sym e) r) ob of)
+    gone_here : (ps : List ℕ) (qs : List OwnedFd) → ps ≡ take (length (take share.bytes out)) bs → qs ≡ take (length (take share.fds fout)) fs
+        → Gone lim (ring_choices lim) cells out fout share.bytes share.fds (ps ++ drop share.bytes out) (qs ++ drop share.fds fout) (cells_from bs' ks' fs')
+    gone_here ps qs p q = record {
+      chosen = taken.bytes ∙ ap (most lim.descriptors (length out)) (sym (counts_from bs ks fs l (omega arith)));
+      may = record {
+        some = taken.some r.0 (omega (arith, r.2, ap length e, length_from bs ks fs));
+        wanted = taken.wanted;
+        there = omega (arith, taken.there, length_from bs ks fs);
+        few = omega (arith, taken.few, ap length given, length-take-le share.fds fs fds_there);
+      };
+      count = sym (ap length given ∙ length-take-le share.fds fs fds_there);
+      bytes = ap (λ y. y ++ drop share.bytes out) (p ∙ ap (λ n. take n bs) bytes_long ∙ sym (bytes_take share.bytes bs ks fs));
+      fds = ap (λ y. y ++ drop share.fds fout) (q ∙ ap (λ n. take n fs) fds_long ∙ sym given);
+      rest = give_cells;
+    }
+
+    pub gone : (ps : List ℕ) (qs : List OwnedFd) → ps ≡ take (length (take share.bytes out)) bs → qs ≡ take (length (take share.fds fout)) fs
+        → Gone lim (ring_choices lim) all out fout share.bytes share.fds (ps ++ drop share.bytes out) (qs ++ drop share.fds fout) (cells_from bs' ks' fs')
+    gone ps qs p q =
+        subst (λ y. Gone lim (ring_choices lim) y out fout share.bytes share.fds (ps ++ drop share.bytes out) (qs ++ drop share.fds fout) (cells_from bs' ks' fs')) e (gone_here ps qs p q)
 
 -- a ring never could give more than it gives
 gives_largest : (cells : List Cell) (d asked n : ℕ) → n ≤ asked → n ≤ length cells → length (fds_of (take n cells)) ≤ d → n ≤ most d asked (fd_counts cells)
