@@ -143,6 +143,7 @@ impl<T: Copy, const N: usize> Queue<T, N> {
         )
     }
 
+    // Gives the items in their order.
     pub(crate) fn iter(&self) -> Chain<Iter<'_, T>, Iter<'_, T>>
         ensures { YieldsList (chain_steps fronts fronts) (λ x. x.now) result self.now }
     {

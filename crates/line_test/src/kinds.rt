@@ -1,3 +1,5 @@
+// What a user of each kind of line may lean on, in the words of the kind: the contracts of `Stored` at its two stores.
+
 ghost use Rattle.std.specs.Prelude.{◌≡◌, [], length};
 ghost use Rattle.protocol.specs.Limits.{limits};
 ghost use Rattle.line.specs.Choices.{SentBy, ReceivedBy, state_by};
@@ -10,7 +12,6 @@ ghost use Rattle.line.specs.RingView.{ring_state};
 use line::{Line, Parcel, Ring};
 use protocol::{OwnedFd, Refusal};
 
-// What a user of each kind of line may lean on, in the words of the kind: the contracts of `Stored` at its two stores.
 fn new_ring() -> Ring
     ensures { ring_state result ≡ state_by (ring_choices limits) [] 0 }
 {
