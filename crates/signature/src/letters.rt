@@ -55,7 +55,7 @@ fn types_from(letters: &[u8]) -> Option<Signature>
     let mut read = Signature::empty();
     let mut marked = false;
     for letter in letters {
-        match step_at(marked, *letter as char)? {
+        match step_at(marked, char::from(*letter))? {
             Step::Mark => marked = true,
             Step::Put(last) => {
                 read.push(last)?;
@@ -63,7 +63,7 @@ fn types_from(letters: &[u8]) -> Option<Signature>
             }
         }
     }
-    if marked { None } else { Some(read) }
+    (!marked).then_some(read)
 }
 
 // The letters that libwayland writes a signature with.

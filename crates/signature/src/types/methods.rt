@@ -29,6 +29,7 @@ impl Signature {
         ensures room { is_some result ≡ nat_lt (length (types_in self.old)) limits.arguments }
         ensures after { types_in self.new ≡ (if is_some result then types_in self.old ++ last ∷ [] else types_in self.old) }
     {
+        // A test, and no `get_mut(..)?`: after that the check no longer knows that the signature is whole.
         if self.len == MOST {
             return None;
         }
@@ -42,6 +43,7 @@ impl Signature {
         ensures { option_map types_in result ≡ at_most limits.arguments (Some list.now) }
     {
         let len = list.len();
+        // A test here too: the proof of a copy behind `get_mut(..)?` needs names that are the checker's own.
         if len > MOST {
             return None;
         }
