@@ -103,6 +103,7 @@ impl<L: Line + Hosted> Driver<L> {
     fn take_bytes(&mut self, rt: &impl Abort, bytes: &[u8], n: usize) {
         let step = self.step;
         let (given, behind) = bytes.split_at(n.min(bytes.len()));
+        // the place of a byte says which one of the stream it has to be
         for (i, byte) in given.iter().enumerate() {
             assert_eq!(rt;
                 *byte,
@@ -121,6 +122,7 @@ impl<L: Line + Hosted> Driver<L> {
     fn take_fds(&mut self, rt: &impl Abort, fds: &[OwnedFd], k: usize) {
         let step = self.step;
         let (given, behind) = fds.split_at(k.min(fds.len()));
+        // the place of a duplicate says which one it has to be
         for (i, fd) in given.iter().enumerate() {
             let place = self.fds_out.wrapping_add(i);
             assert_eq!(rt; *fd, fd_at(place), "step {step}: a duplicate");
@@ -225,6 +227,7 @@ impl<L: Line + Hosted> Driver<L> {
 
     // Takes the steps in their order.
     pub(crate) fn follow(&mut self, rt: &impl Abort, steps: &[Step]) -> Result<(), Fail> {
+        // a failure names the place of its step
         for (i, step) in steps.iter().enumerate() {
             self.step = i;
             self.take_step(rt, *step)?;
