@@ -10,7 +10,7 @@ use arrayvec::ArrayVec;
 // How many numbers there are: 0 to 1,023.
 pub const NUMBERS: usize = 1024;
 
-// What one number stands for: None where it is not open.
+// What one number stands for: None where it is not open. A struct of one field, so that it has a name.
 #[derive(Clone, Copy, Debug, PartialEq, Eq)]
 struct Entry {
     file: Option<u64>,

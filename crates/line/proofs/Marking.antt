@@ -5,7 +5,7 @@ use Rattle.std.proofs.lemmas.Option.{slice_get_within, get_or_from_slice_get}
 use Rattle.std.specs.List.{slice_get}
 use Rattle.std.proofs.lemmas.Grind.{common_steps}
 use Rattle.std.proofs.lemmas.Bool.{and_parts, and_from, ltb-true, leb-true, lt-ltb, le-leb}
-use Rattle.line.specs.Marks.{spread, counts, carrying, Taken}
+use Rattle.line.specs.Marks.{spread, counts, carrying, CountsTaken}
 use Rattle.line.specs.Counted.{most}
 use Rattle.line.specs.declared.marks.Mark.{Mark}
 use Rattle.line.proofs.Most.{sum_cons, sum_append, sum_none, most_pass, most_stop, most_tail, some_first}
@@ -162,7 +162,7 @@ module _ (d asked : ℕ) (all : List ℕ) (tail bytes fds : ℕ) where
     whole : most (d - fds) (asked - bytes) (counts ms tail) ≡ min (asked - bytes) (plain ms tail) → bytes + r ≡ most d asked all
     whole e = sym (p.most ∙ ap (λ y. bytes + y) (e ∙ sym c))
 
-    taken : most (d - fds) (asked - bytes) (counts ms tail) ≡ min (asked - bytes) (plain ms tail) → (left : List ℕ) → left ≡ drop r (counts ms tail) → Taken d asked all (record { bytes = bytes + r; fds = fds }) left
+    taken : most (d - fds) (asked - bytes) (counts ms tail) ≡ min (asked - bytes) (plain ms tail) → (left : List ℕ) → left ≡ drop r (counts ms tail) → CountsTaken d asked all (record { bytes = bytes + r; fds = fds }) left
     taken e left is = record {
       bytes = whole e;
       some = λ h l. omega (arith, p.some h l, whole e);
@@ -211,13 +211,13 @@ module _ (d asked : ℕ) (all : List ℕ) (ms : List Mark) (tail bytes fds : ℕ
       pub still_carrying : carrying d left ≡ true
       still_carrying = subst (λ y. carrying d y ≡ true) (sym now) first.carrying
 
-      pub stopped : r ≡ min (asked - bytes) m.gap → (asked - bytes ≤ m.gap) ⊎ (d - fds < m.fds) → Taken d asked all (record { bytes = bytes + r; fds = fds }) (counts left tail)
+      pub stopped : r ≡ min (asked - bytes) m.gap → (asked - bytes ≤ m.gap) ⊎ (d - fds < m.fds) → CountsTaken d asked all (record { bytes = bytes + r; fds = fds }) (counts left tail)
       stopped c s =
           taken d asked all tail bytes fds (m ∷ drop 1 ms) first r c (stop_most (d - fds) (asked - bytes) m (drop 1 ms) tail s) (counts left tail)
           (ap (λ y. counts y tail) now ∙ drop_gap r m (drop 1 ms) tail (omega arith))
 
   -- there is no mark, and some of the tail is given
-  pub ended : ((m : Mark) → slice_get ms 0 ≡ Some m → ⊥) → (r : ℕ) → r ≡ min (asked - bytes) tail → Taken d asked all (record { bytes = bytes + r; fds = fds }) (counts ms (tail - r))
+  pub ended : ((m : Mark) → slice_get ms 0 ≡ Some m → ⊥) → (r : ℕ) → r ≡ min (asked - bytes) tail → CountsTaken d asked all (record { bytes = bytes + r; fds = fds }) (counts ms (tail - r))
   ended h r c =
       let none : ms ≡ [] = no_mark ms h in
       taken d asked all tail bytes fds [] (subst (λ y. Passing d asked all y tail bytes fds) none p) r c (most_tail tail (d - fds) (asked - bytes)) (counts ms (tail - r))

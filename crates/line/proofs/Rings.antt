@@ -9,7 +9,7 @@ use Rattle.protocol.specs.declared.limits.Limits.{Limits}
 use Rattle.line.specs.Choices.{Gone}
 use Rattle.line.specs.Checks.{Receivable}
 use Rattle.line.specs.Line.{Cell, cells_of, fds_of, MayGive}
-use Rattle.line.specs.Marks.{Taken}
+use Rattle.line.specs.Marks.{CountsTaken}
 use Rattle.line.specs.declared.share.Share.{Share}
 use Rattle.line.specs.Counted.{fd_counts, cells_from, most}
 use Rattle.line.specs.Sizes.{ring_bytes, ring_fds}
@@ -58,7 +58,7 @@ module _ (bs ks : List ℕ) (fs : List OwnedFd) (l : length ks ≡ length bs) (t
         ∙ ap (λ y. cells ++ y) (from_send new nf h)
 
   -- the first cells are gone, with the duplicates on them: they went to the front of the caller's buffers
-  module _ (lim : Limits) (all : List Cell) (e : cells ≡ all) (out : List ℕ) (fout : List OwnedFd) (r : Receivable lim (length all) (length out) (length fout)) (share : Share) (ks' : List ℕ) (taken : Taken lim.descriptors (length out) ks share ks')
+  module _ (lim : Limits) (all : List Cell) (e : cells ≡ all) (out : List ℕ) (fout : List OwnedFd) (r : Receivable lim (length all) (length out) (length fout)) (share : Share) (ks' : List ℕ) (taken : CountsTaken lim.descriptors (length out) ks share ks')
       (bs' : List ℕ) (fs' : List OwnedFd) (eb : bs' ≡ drop (length (take share.bytes out)) bs) (ef : fs' ≡ drop (length (take share.fds fout)) fs) where
     bytes_long : length (take share.bytes out) ≡ share.bytes
     bytes_long = length-take-le share.bytes out taken.wanted

@@ -19,7 +19,7 @@ carrying d [] = true
 carrying d (m ∷ ms) = (nat_lt 0 m.fds && nat_le m.fds d) && carrying d ms
 
 -- what is taken of the counts, where so many bytes are asked for, with d duplicates at most: as much as may be given
-pub record Taken (d asked : ℕ) (all : List ℕ) (share : Share) (left : List ℕ) : Type 0 where
+pub record CountsTaken (d asked : ℕ) (all : List ℕ) (share : Share) (left : List ℕ) : Type 0 where
   pub bytes : share.bytes ≡ most d asked all
   pub some : 0 < asked → 0 < length all → 0 < share.bytes
   pub fds : share.fds ≡ sum (take share.bytes all)

@@ -38,7 +38,7 @@ impl Model for Marks {
 }
 
 impl Marks {
-    ghost use Rattle.line.specs.Marks.{Taken};
+    ghost use Rattle.line.specs.Marks.{CountsTaken};
 
     pub(crate) fn new() -> Marks
         ensures { result ≡ [] }
@@ -49,8 +49,8 @@ impl Marks {
         }
     }
 
-    #[tactic(auto, using(crate::proofs::Marking::carrying_length, crate::proofs::Marking::carrying_push, crate::proofs::Marking::counts_push, crate::proofs::Marking::noted_plain))]
     // New bytes came, the first of them with so many duplicates.
+    #[tactic(auto, using(crate::proofs::Marking::carrying_length, crate::proofs::Marking::carrying_push, crate::proofs::Marking::counts_push, crate::proofs::Marking::noted_plain))]
     pub(crate) fn note(&mut self, bytes: usize, fds: usize)
         requires some { 0 < bytes }
         requires few { fds ≤ limits.descriptors }
@@ -69,7 +69,7 @@ impl Marks {
 
     // As many cells as may be given where so many bytes are asked for: they are gone.
     pub(crate) fn take(&mut self, asked: usize) -> Share
-        ensures { Taken limits.descriptors asked self.old result self.new }
+        ensures { CountsTaken limits.descriptors asked self.old result self.new }
     {
         let mut share = Share { bytes: 0, fds: 0 };
         while let Some(mark) = self.marks.get(0) {

@@ -47,5 +47,6 @@ pub trait Store {
     fn view(&self, place: usize) -> Option<CellView>
         ensures { result ≡ seen_at (cells self.now) place };
 
+    // a refusal gives no cells, and so keeps it
     ghost refused: { (cells : List Cell) (asked : ℕ) (why : Refusal) → most cells asked (Err why) };
 }

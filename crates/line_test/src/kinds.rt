@@ -1,15 +1,17 @@
 // What a user of each kind of line may lean on, in the words of the kind: the contracts of `Stored` at its two stores.
+// A function for each kind, since a clause in the words of one says nothing of the other.
 
 ghost use Rattle.std.specs.Prelude.{◌≡◌, [], length};
 ghost use Rattle.protocol.specs.Limits.{limits};
-ghost use Rattle.line.specs.Choices.{SentBy, ReceivedBy, state_by};
-ghost use Rattle.line.specs.Line.{Sent, Received};
+ghost use Rattle.line.specs.Choices.{SentBy, ReceivedBy, shut_with, state_by};
+ghost use Rattle.line.specs.Line.{Between, Sent, Received};
 ghost use Rattle.line.specs.Parcel.{parcel_choices};
 ghost use Rattle.line.specs.ParcelView.{parcel_state};
 ghost use Rattle.line.specs.Ring.{ring_choices, GivesMost};
 ghost use Rattle.line.specs.RingView.{ring_state};
+ghost use Rattle.line.specs.Seen.{line_seen, seen_at};
 
-use line::{Line, Parcel, Ring};
+use line::{CellView, Hosted, Line, LineView, Parcel, Ring};
 use protocol::{OwnedFd, Refusal};
 
 fn new_ring() -> Ring
@@ -59,4 +61,42 @@ fn receive_from_parcel(
     ensures chosen { ReceivedBy (parcel_choices limits) (parcel_state parcel.old) (length bytes.old) result (parcel_state parcel.new) }
 {
     parcel.receive(bytes, fds)
+}
+
+fn view_of_ring(ring: &Ring) -> LineView
+    ensures { result ≡ line_seen (ring_state ring.now) }
+{
+    ring.view()
+}
+
+fn cell_of_ring(ring: &Ring, place: usize) -> Option<CellView>
+    ensures { result ≡ seen_at (ring_state ring.now).cells place }
+{
+    ring.cell(place)
+}
+
+fn shut_ring(ring: &mut Ring, code: u32)
+    ensures after { ring_state ring.new ≡ shut_with code (ring_state ring.old) }
+    ensures between { Between (ring_state ring.old) (ring_state ring.new) }
+{
+    ring.shut(code);
+}
+
+fn view_of_parcel(parcel: &Parcel) -> LineView
+    ensures { result ≡ line_seen (parcel_state parcel.now) }
+{
+    parcel.view()
+}
+
+fn cell_of_parcel(parcel: &Parcel, place: usize) -> Option<CellView>
+    ensures { result ≡ seen_at (parcel_state parcel.now).cells place }
+{
+    parcel.cell(place)
+}
+
+fn shut_parcel(parcel: &mut Parcel, code: u32)
+    ensures after { parcel_state parcel.new ≡ shut_with code (parcel_state parcel.old) }
+    ensures between { Between (parcel_state parcel.old) (parcel_state parcel.new) }
+{
+    parcel.shut(code);
 }

@@ -41,7 +41,7 @@ impl ArgumentType {
     }
 }
 
-// A string or an array, as a part of the bytes that go with the record: the caller's text, or the frame that was read.
+// A string or an array, as a part of the bytes that go with the record: the caller's text, or the frame that was read. A place and no slice: the record may be kept longer than the bytes are lent.
 #[derive(Clone, Copy, Debug, PartialEq, Eq)]
 pub struct Text {
     pub place: usize,
@@ -85,8 +85,9 @@ impl<Fd> Argument<Fd> {
 fn first_unlike<Fd>(signature: &[ArgumentType], args: &[Argument<Fd>]) -> Option<usize>
     ensures { length signature.now ≡ length args.now → MatchOption result (Matching signature.now args.now) (Mismatching signature.now args.now) }
 {
-    let mut pairs = args.iter().zip(signature);
-    pairs.position(|(arg, kind)| !arg.get_type().same_type(*kind))
+    args.iter()
+        .zip(signature)
+        .position(|(arg, kind)| !arg.get_type().same_type(*kind))
 }
 
 // MISMATCH carries 255 where the numbers differ, else the place of an argument of another type.

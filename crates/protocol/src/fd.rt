@@ -1,6 +1,6 @@
 ghost use Rattle.std.specs.Prelude.{◌≡◌};
 
-// A number of the descriptor book that belongs to the caller.
+// A number of the descriptor book that belongs to the caller. Two types and no generic one, so that neither is taken for the other.
 #[derive(Clone, Copy, Debug, PartialEq, Eq)]
 pub struct RawFd(pub u32);
 

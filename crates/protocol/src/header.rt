@@ -9,7 +9,7 @@ pub struct Header {
 }
 
 // A message to be written: strings and arrays are places in `text`.
-#[derive(Clone, Copy)]
+#[derive(Clone, Copy, Debug, PartialEq, Eq)]
 pub struct Message<'a, Fd> {
     pub sender: u32,
     pub opcode: u16,

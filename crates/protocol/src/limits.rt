@@ -1,5 +1,5 @@
 // The four numbers of a link that its ends and lines agree on.
-#[derive(Clone, Copy)]
+#[derive(Clone, Copy, Debug, PartialEq, Eq)]
 pub struct Limits {
     // descriptors that one send may carry
     pub descriptors: usize,

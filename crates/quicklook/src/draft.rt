@@ -21,7 +21,7 @@ pub(crate) struct Draft {
     text: Vec<u8>,
 }
 
-// Puts bytes behind those of a text, and says where they lie.
+// Puts bytes behind those of a text, and says where they lie. As replay's `add_text`: the programs share no crate of their own.
 fn append(text: &mut Vec<u8>, bytes: &[u8]) -> Result<Text, AllocError>
     ensures place { IfOk result (λ t. t.place ≡ vec_len text.old) }
     ensures len { IfOk result (λ t. t.len ≡ length bytes.now) }

@@ -10,7 +10,7 @@ use wire::ArgumentView;
 // Stands where an argument has no name.
 const UNNAMED: &str = "argument";
 
-// Bytes as pairs of hexadecimal digits.
+// Bytes as pairs of hexadecimal digits, apart: another form than that of replay, which shows one run.
 #[derive(Clone, Copy)]
 pub(crate) struct Hex<'a>(pub(crate) &'a [u8]);
 

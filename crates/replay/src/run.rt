@@ -51,6 +51,7 @@ impl Session {
     }
 
     fn run(&mut self, command: Command) -> Result<String, Fault> {
+        // An arm for each command, since each has parts of its own.
         match command {
             Command::Open { mark, count } => {
                 // As often as the script says: no list is gone over.

@@ -11,7 +11,7 @@ const FIRST: usize = 24;
 
 const LAST: usize = 8;
 
-// Bytes in hex.
+// Bytes in hex, in one run and of many only the ends: another form than that of quicklook, which shows all, apart.
 #[derive(Clone, Copy)]
 pub(crate) struct Hex<'a>(pub(crate) &'a [u8]);
 

@@ -8,6 +8,7 @@ use std::alloc::{AllocError, Global};
 use std::num::ParseIntError;
 use std::str::{FromStr, SplitWhitespace};
 
+// By hand: the library's `to_digit(16)` takes capitals too.
 fn hex_digit(digit: u8) -> Result<u8, Fault>
     ensures { IfOk result (λ n. n < 16) }
 {
@@ -25,8 +26,8 @@ fn hex_byte(digits: &[u8]) -> Result<u8, Fault> {
     Ok((hex_digit(*high)? << 4) | hex_digit(*low)?)
 }
 
-// `-` stands for no letters.
-fn letters(word: &str) -> &str {
+// `-` stands for an empty text.
+fn unless_dash(word: &str) -> &str {
     if word == "-" { "" } else { word }
 }
 
@@ -66,7 +67,7 @@ impl<'a> Words<'a> {
     // The types that libwayland's letters say.
     pub(crate) fn signature(&mut self) -> Result<Signature, Fault> {
         let word = self.word()?;
-        u8::read(letters(word).as_bytes()).ok_or(Fault::BadLine)
+        u8::read(unless_dash(word).as_bytes()).ok_or(Fault::BadLine)
     }
 
     // Marks joined by commas, or none at the end of the line.
@@ -82,7 +83,7 @@ impl<'a> Words<'a> {
     // The bytes of parts joined by `+`.
     fn bytes_of(&self, word: &str) -> Result<Vec<u8>, Fault> {
         let mut bytes = Vec::new(self.heap);
-        for part in letters(word).split('+') {
+        for part in unless_dash(word).split('+') {
             bytes.extend_from_slice(self.bytes_of_part(part)?.as_slice())?;
         }
         Ok(bytes)
@@ -120,6 +121,7 @@ impl Arguments {
             records: Vec::new(words.heap),
             text: Vec::new(words.heap),
         };
+        // no `for`: a text reads its bytes by the same `words`
         while let Some(word) = words.words.next() {
             let record = arguments.record(words, word)?;
             arguments.records.push(record)?;

@@ -16,7 +16,7 @@ pub(crate) enum Step {
     Put(ArgumentType),
 }
 
-// `marked` says that a question mark stands right before the letter; None where the letter may not stand there.
+// `marked` says that a question mark stands right before the letter; None where the letter may not stand there. Its cases are letters, as the rules write them.
 fn step_at(marked: bool, letter: char) -> Option<Step>
     ensures { result ≡ step_of marked letter }
 {

@@ -12,7 +12,7 @@ use protocol::{ArgumentType, Refusal};
 // The most rows that a source may have.
 const MOST_ROWS: usize = 256;
 
-// The types of one message stand at `place..place + len` of a body.
+// The types of one message stand at `place..place + len` of a body. No slice: rows are lists of numbers that a caller may store.
 #[derive(Clone, Copy, Debug, PartialEq, Eq)]
 pub struct Row {
     pub sender: u32,
@@ -25,8 +25,8 @@ pub struct Row {
 fn find(rows: &[Row], sender: u32, opcode: u16) -> Option<Row>
     ensures { result ≡ row_for rows.now sender opcode }
 {
-    let mut rows = rows.iter();
-    rows.find(|row| row.sender == sender && row.opcode == opcode)
+    rows.iter()
+        .find(|row| row.sender == sender && row.opcode == opcode)
         .copied()
 }
 

@@ -15,7 +15,7 @@ pub trait SignatureSource {
     // they are never more than a message may have
     ghost few: { (source : Self) (sender opcode : ℕ) → Few limits.arguments (types source sender opcode) };
 
-    // Sender and opcode are two numbers, as in a header.
+    // Sender and opcode are two numbers, as in a header: so callers of every source have them.
     fn signature(&self, sender: u32, opcode: u16) -> Option<Signature>
         ensures { option_map types_in result ≡ types self.now sender opcode };
 }

@@ -21,6 +21,7 @@ fn block(bytes: &[u8]) -> Option<&[u8]>
 {
     // A proved cast: there is no `usize::from` of a `u32`.
     let len = word(bytes)? as usize;
+    // A test, and no `get(..block_len(len))?`: behind that the answer stays unproved.
     if block_len(len) > bytes.len() {
         return None;
     }
@@ -132,6 +133,7 @@ impl<'a> Reader<'a> {
     pub(crate) fn fits(mut self) -> bool
         ensures { result ≡ is_some (left self.entry) }
     {
+        // A loop and no chain: a proof does not follow a closure that moves the reader.
         while !self.kinds.is_empty() {
             if self.argument().is_none() {
                 return false;

@@ -5,7 +5,7 @@ ghost use Rattle.wire.specs.View.{shown};
 
 use protocol::{Argument, OwnedFd, Text};
 
-// An argument that was read, its text as a part of the frame, without the final 0.
+// An argument that was read, its text as a part of the frame, without the final 0. An enum of its own: in it a text is borrowed, in a record a place.
 #[derive(Clone, Copy, Debug, PartialEq, Eq)]
 pub enum ArgumentView<'f> {
     Int(i32),
@@ -26,7 +26,7 @@ pub(crate) fn part(bytes: &[u8], text: Text) -> Option<&[u8]>
 }
 
 impl<'f> ArgumentView<'f> {
-    // What a record says of its frame; None where its place and length do not lie in the frame.
+    // What a record says of its frame, which it needs beside it: so no `TryFrom`. None where its place and length do not lie in the frame.
     pub fn of(frame: &'f [u8], argument: Argument<OwnedFd>) -> Option<ArgumentView<'f>>
         ensures { option_map shown result ≡ value_in frame.now argument }
     {

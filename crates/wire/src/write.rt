@@ -60,8 +60,10 @@ fn check_duplicates(args: &[Argument<RawFd>], book: &Book) -> Result<usize, Refu
     ensures { result ≡ unless_failed (dup_failure (files book.now) (numbers - opened (files book.now)) (numbers_in args.now)) (Ok (length (numbers_in args.now))) }
 {
     let free = book.free_numbers();
+    // counts down, as `dup_failure` does
     let mut left = free;
     for fd in args.iter().filter_map(fd_of) {
+        // no `?`: a number that is not open has another refusal here
         if book.file(fd).is_err() {
             return Err(Refusal::DupFailed(EBADF));
         }
@@ -73,41 +75,41 @@ fn check_duplicates(args: &[Argument<RawFd>], book: &Book) -> Result<usize, Refu
     Ok(free - left)
 }
 
-fn put_word(free: &mut [u8], n: u32)
-    requires { 4 ≤ length free.old }
-    ensures { free.new ≡ overlay (known (word n)) free.old }
+fn put_word(out: &mut [u8], n: u32)
+    requires { 4 ≤ length out.old }
+    ensures { out.new ≡ overlay (known (word n)) out.old }
 {
-    free[..4].copy_from_slice(&n.to_le_bytes());
+    out[..4].copy_from_slice(&n.to_le_bytes());
 }
 
 // The length of some bytes and their end, and then both. A string ends in a 0.
-fn put_block(free: &mut [u8], bytes: &[u8], end: &[u8])
-    requires room { block_length (length (bytes.now ++ end.now)) ≤ length free.old }
+fn put_block(out: &mut [u8], bytes: &[u8], end: &[u8])
+    requires room { block_length (length (bytes.now ++ end.now)) ≤ length out.old }
     requires small { length (bytes.now ++ end.now) ≤ largest }
-    ensures { free.new ≡ overlay (block (bytes.now ++ end.now)) free.old }
+    ensures { out.new ≡ overlay (block (bytes.now ++ end.now)) out.old }
 {
     let start = 4 + bytes.len();
     let len = bytes.len() + end.len();
     // A proved cast: `u32::try_from` would add a refusal that cannot come.
-    put_word(free, len as u32);
-    free[4..start].copy_from_slice(bytes);
-    free[start..4 + len].copy_from_slice(end);
+    put_word(out, len as u32);
+    out[4..start].copy_from_slice(bytes);
+    out[start..4 + len].copy_from_slice(end);
 }
 
 // The field of an argument, in front; padding stays as it was.
-fn put_argument(free: &mut [u8], argument: &Argument<RawFd>, text: &[u8])
+fn put_argument(out: &mut [u8], argument: &Argument<RawFd>, text: &[u8])
     requires good { good_text text.now argument.now ≡ true }
     requires small { field_length argument.now ≤ largest }
-    requires room { field_length argument.now ≤ length free.old }
-    ensures laid { free.new ≡ overlay (field (value_of text.now argument.now)) free.old }
+    requires room { field_length argument.now ≤ length out.old }
+    ensures laid { out.new ≡ overlay (field (value_of text.now argument.now)) out.old }
     ensures carries { Carries (value_of text.now argument.now) }
 {
     match argument {
-        Argument::Int(n) | Argument::Fixed(n) => put_word(free, n.cast_unsigned()),
-        Argument::Uint(n) | Argument::Object(n) | Argument::NewId(n) => put_word(free, *n),
-        Argument::NullStr => put_word(free, 0),
-        Argument::Str(t) => put_block(free, part(text, *t).unwrap(), &[0]),
-        Argument::Array(t) => put_block(free, part(text, *t).unwrap(), &[]),
+        Argument::Int(n) | Argument::Fixed(n) => put_word(out, n.cast_unsigned()),
+        Argument::Uint(n) | Argument::Object(n) | Argument::NewId(n) => put_word(out, *n),
+        Argument::NullStr => put_word(out, 0),
+        Argument::Str(t) => put_block(out, part(text, *t).unwrap(), &[0]),
+        Argument::Array(t) => put_block(out, part(text, *t).unwrap(), &[]),
         Argument::Fd(_) => {}
     }
 }
@@ -131,15 +133,15 @@ impl Measured<'_> {
         self.put_arguments(&mut payload[8..]);
     }
 
-    fn put_arguments(&self, free: &mut [u8])
-        requires { self.now.size ≤ length free.old + 8 }
-        ensures laid { free.new ≡ overlay (fields (message_of self.now.msg).args) free.old }
+    fn put_arguments(&self, out: &mut [u8])
+        requires { self.now.size ≤ length out.old + 8 }
+        ensures laid { out.new ≡ overlay (fields (message_of self.now.msg).args) out.old }
         ensures carries { AllCarry (message_of self.now.msg).args }
     {
         // By place: after a loop that cuts off each field with `split_at_mut`, a proof knows nothing of the bytes.
         let mut at = 0;
         for argument in self.msg.args {
-            put_argument(&mut free[at..], argument, self.msg.text);
+            put_argument(&mut out[at..], argument, self.msg.text);
             at += field_len(argument);
         }
     }

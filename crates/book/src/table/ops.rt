@@ -8,7 +8,7 @@ use arrayvec::ArrayVec;
 use protocol::{OwnedFd, RawFd, Refusal};
 use std::array;
 
-// Each number once, 0 on top.
+// Each number once, 0 on top. The cast keeps a number below 1,024.
 fn all_numbers() -> ArrayVec<u16, NUMBERS>
     ensures all { length result.items ≡ numbers }
     ensures unused { Unused (replicate numbers None) result.items }
@@ -17,6 +17,7 @@ fn all_numbers() -> ArrayVec<u16, NUMBERS>
     ArrayVec::from(array::from_fn(|i| (NUMBERS - 1 - i) as u16))
 }
 
+// `others` relates what a book held before and after: no fact of one book, and so no invariant.
 impl Book {
     // A book with no number open.
     pub fn new() -> Book

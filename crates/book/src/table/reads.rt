@@ -23,7 +23,7 @@ impl Book {
         self.free.len()
     }
 
-    // What a number stands for; past the table, nothing.
+    // What a number stands for; past the table, nothing. The cast widens: there is no `usize::from` of a `u32`.
     fn entry(&self, fd: RawFd) -> Entry
         ensures { stands_for result ≡ file_of (files self.now) fd.0 }
     {

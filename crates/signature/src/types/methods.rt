@@ -29,7 +29,7 @@ impl Signature {
         ensures room { is_some result ≡ nat_lt (length (types_in self.old)) limits.arguments }
         ensures after { types_in self.new ≡ (if is_some result then types_in self.old ++ last ∷ [] else types_in self.old) }
     {
-        // A test, and no `get_mut(..)?`: after that the check no longer knows that the signature is whole.
+        // A test, and no `get_mut(..)?`: behind that a proof does not know that the signature is whole.
         if self.len == MOST {
             return None;
         }

@@ -7,5 +7,5 @@ use Rattle.protocol.proofs.argument.first_unlike.Goals as goal
 pub returns : goal.returns
 returns g c same =
     judged c.args.signature.now c.args.args.now same c.position.result
-    (position_from_yields_List {s = c.zip-pairs.result} differs c.position.new.self _ c.position.result c.position.ensures.ran
+    (position_from_yields_List {s = c.zip.result} differs c.position.new.self _ c.position.result c.position.ensures.ran
     (YieldsList-from_zip (YieldsList-from_slice c.args.args.now cc) (YieldsList-from_slice c.args.signature.now cc)) (λ x b q k. search (rules, tests)))

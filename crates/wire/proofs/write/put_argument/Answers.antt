@@ -14,12 +14,12 @@ pub returns-in-Str-clause-laid : goal.returns-in-Str-clause-laid
 returns-in-Str-clause-laid c =
     let p = rw c.unwrap.ensures at c.part.ensures in
     c.put_block.ensures
-    ∙ ap (λ (bs : List ℕ). overlay (block (bs ++ 0 ∷ [])) c.args.free.now) (got _ c.unwrap.result.now (bytes_of c.args.text.now c.in-Str.t) p)
-    ∙ sym (ap (laid_as c.args.text.now c.args.free.now) c.in-Str.is)
+    ∙ ap (λ (bs : List ℕ). overlay (block (bs ++ 0 ∷ [])) c.args.out.now) (got _ c.unwrap.result.now (bytes_of c.args.text.now c.in-Str.t) p)
+    ∙ sym (ap (laid_as c.args.text.now c.args.out.now) c.in-Str.is)
 
 pub returns-in-Array-clause-laid : goal.returns-in-Array-clause-laid
 returns-in-Array-clause-laid c =
     let p = rw c.unwrap-in-Array.ensures at c.part-in-Array.ensures in
     c.put_block-in-Array.ensures
-    ∙ ap (λ (bs : List ℕ). overlay (block bs) c.args.free.now) (append-nil _ ∙ got _ c.unwrap-in-Array.result.now (bytes_of c.args.text.now c.in-Array.t) p)
-    ∙ sym (ap (laid_as c.args.text.now c.args.free.now) c.in-Array.is)
+    ∙ ap (λ (bs : List ℕ). overlay (block bs) c.args.out.now) (append-nil _ ∙ got _ c.unwrap-in-Array.result.now (bytes_of c.args.text.now c.in-Array.t) p)
+    ∙ sym (ap (laid_as c.args.text.now c.args.out.now) c.in-Array.is)

@@ -8,7 +8,7 @@ use Rattle.wire.proofs.write.Measured.put_arguments.Goals as goal
 use Rattle.wire.proofs.write.Measured.put_arguments.Goals.{In-loop-argument}
 
 -- the field in hand lies in the bytes, and is not too large
-fits : (c : In-loop-argument) → (c.loop-argument.at + field_length (get_or c.args.self.now.msg.args.now c.loop-argument.argument-index (Int (pos 0))) ≤ length c.loop-argument.free)
+fits : (c : In-loop-argument) → (c.loop-argument.at + field_length (get_or c.args.self.now.msg.args.now c.loop-argument.argument-index (Int (pos 0))) ≤ length c.loop-argument.out)
     × (c.loop-argument.at + field_length (get_or c.args.self.now.msg.args.now c.loop-argument.argument-index (Int (pos 0))) ≤ 65524)
 fits c =
     let n = good_lengths c.args.self.now.msg.text.now c.args.self.now.msg.args.now c.args.self.now.good in
@@ -40,7 +40,7 @@ pub loop-argument-preserved : goal.loop-argument-preserved
 loop-argument-preserved c =
     let f = fits (goal.at.loop-argument-preserved c).In-loop-argument in
     laid_more _ _ _ _ _ _ c.loop-argument.invariant (Int (pos 0)) _ _ (omega arith) (omega (arith, f.1, c.field_len-at.ensures))
-    (part_laid c.loop-argument.at _ _ c.loop-argument.free c.put_argument.new.free (omega (arith, f.0)) refl c.put_argument.ensures.laid) c.put_argument.ensures.carries
+    (part_laid c.loop-argument.at _ _ c.loop-argument.out c.put_argument.new.out (omega (arith, f.0)) refl c.put_argument.ensures.laid) c.put_argument.ensures.carries
 
 pub returns : goal.returns
 returns c = let l = laid_all _ _ _ _ _ _ c.loop-argument.invariant (omega arith) in record { laid = l.0; carries = l.1 }
