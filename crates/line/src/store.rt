@@ -10,8 +10,8 @@ use crate::share::Share;
 use crate::view::CellView;
 use protocol::OwnedFd;
 
-// Where a kind of line keeps the cells that wait, and what the kind chooses. The kinds are those of this crate: the module of the trait is private.
-pub trait Store {
+// Where a kind of line keeps the cells that wait, and what the kind chooses. The kinds are those of this crate.
+pub(crate) trait Store {
     // the cells that wait, in their order
     ghost cells: { Self → List Cell };
 

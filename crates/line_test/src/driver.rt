@@ -10,6 +10,7 @@ const BLANK: u8 = 0xff;
 const NO_FD: OwnedFd = OwnedFd(u32::MAX);
 
 // The byte at a place of the stream that is sent: its period has no factor in common with a ring's size.
+// The casts here keep their numbers.
 fn byte_at(place: usize) -> u8 {
     (place % 251) as u8
 }
