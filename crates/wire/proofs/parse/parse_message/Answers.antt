@@ -7,9 +7,6 @@ use Rattle.wire.proofs.parse.parse_message.Goals as goal
 pub returns-in_err-frame-clause-reads : goal.returns-in_err-frame-clause-reads
 returns-in_err-frame-clause-reads c = reads_frames _ _ _ _
 
-pub returns-in_err-frame-clause-gives : goal.returns-in_err-frame-clause-gives
-returns-in_err-frame-clause-gives c = gives_frames _ _ _ _ (λ k. (c.type_inv.raw k).fits)
-
 pub returns-clause-shows : goal.returns-clause-shows
 returns-clause-shows c =
     let p = rw c.fds_left-fds.ensures at c.in_ok-frame.ensures.ok in

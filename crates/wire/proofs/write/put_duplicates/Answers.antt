@@ -10,7 +10,7 @@ use Rattle.book.specs.View.{files}
 use Rattle.book.proofs.Lengths.{files_length}
 use Rattle.wire.specs.Records.{number_of, numbers_in}
 use Rattle.wire.proofs.Copies.{numbered_here, numbers_gone}
-use Rattle.wire.proofs.Placing.{placing_none, placing_same, placing_more, placing_goes, placing_all}
+use Rattle.wire.proofs.Placing.{placing_same, placing_more, placing_goes, placing_all}
 use Rattle.wire.proofs.write.put_duplicates.Goals as goal
 use Rattle.wire.proofs.write.put_duplicates.Goals.{After-next}
 
@@ -21,9 +21,6 @@ here c at fd is =
     numbered_here c.args.args.now (length c.loop-at.yielded) at _ fd
     (YieldsList-turn (YieldsList-at c.into_iter-at-iterator.ensures.into_iter_gives (YieldsList-from_enumerate (YieldsList-at c.enumerate-at-items.ensures.source (YieldsList-from_filter_map _ (number_of {X = RawFd}) (YieldsList-at c.filter_map.ensures.source (YieldsList-from_slice c.args.args.now cc)) c.filter_map.ensures.closure (λ x r q k. search (rules, tests)))) c.enumerate-at-items.ensures.count))
     c.loop-at.yielded _ c.loop-at.yielded_by _ _ (at, fd) is c.next.ensures.steps) (length_push c.loop-at.yielded (at, fd))
-
-pub loop-at-init : goal.loop-at-init
-loop-at-init c = record { next = search rules; ends = search rules; placing = placing_none (numbers_in c.args.args.now) (files c.args.book.now) c.args.places.now c.requires.can }
 
 pub unwrap-requires : goal.unwrap-requires
 unwrap-requires c =

@@ -2,14 +2,8 @@ use Rattle.std.proofs.Common.{arith}
 use Rattle.std.proofs.lemmas.List.{length-take}
 use Rattle.protocol.specs.declared.argument.Argument.{Argument}
 use Rattle.protocol.specs.declared.fd.OwnedFd.{OwnedFd}
-use Rattle.wire.proofs.Filling.{filling_none, filling_goes, filling_more, filling_all}
+use Rattle.wire.proofs.Filling.{filling_more, filling_all}
 use Rattle.wire.proofs.reader.Reader.fill.Goals as goal
-
-pub loop-record-init : goal.loop-record-init
-loop-record-init c = filling_none _ _ c.requires.fit
-
-pub unwrap-requires : goal.unwrap-requires
-unwrap-requires c = filling_goes _ _ _ _ c.loop-record.invariant _ _ c.argument.ensures (omega (arith, length-take {A = Argument OwnedFd}))
 
 pub loop-record-preserved : goal.loop-record-preserved
 loop-record-preserved c = filling_more _ _ _ _ c.loop-record.invariant _ _ (rw c.unwrap.ensures at c.argument.ensures) (omega arith)

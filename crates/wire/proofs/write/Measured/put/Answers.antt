@@ -1,4 +1,4 @@
-use Rattle.std.proofs.Common.{◌≡◌, ◌-◌, ◌≤◌, List, length, None, sym, subst, arith}
+use Rattle.std.proofs.Common.{◌≡◌, ◌-◌, ◌≤◌, List, length, None, sym, subst}
 use Rattle.protocol.specs.declared.fd.RawFd.{RawFd}
 use Rattle.book.specs.Files.{numbers, opened}
 use Rattle.book.specs.View.{files}
@@ -12,9 +12,6 @@ use Rattle.wire.proofs.write.Measured.put.Goals.{Start}
 
 checks : (c : Start) → Admitted (good_texts c.args.self.now.msg.text.now c.args.self.now.msg.args.now) (message_of c.args.self.now.msg) (length c.args.payload.now) (length c.args.places.now) (files c.args.book.now) c.args.self.now.size
 checks c = admitted (good_texts c.args.self.now.msg.text.now c.args.self.now.msg.args.now) (message_of c.args.self.now.msg) (length c.args.payload.now) (length c.args.places.now) (files c.args.book.now) c.args.self.now.size c.requires
-
-pub put_frame-requires : goal.put_frame-requires
-put_frame-requires c = let a = checks (goal.at.put_frame-requires c).Start in omega (arith, a.bytes, a.size)
 
 pub put_duplicates-requires : goal.put_duplicates-requires
 put_duplicates-requires c =

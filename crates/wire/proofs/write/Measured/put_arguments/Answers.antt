@@ -3,7 +3,7 @@ use Rattle.std.proofs.lemmas.List.{length-take, length-drop}
 use Rattle.protocol.specs.declared.argument.Argument.TheVariants.{Int}
 use Rattle.wire.specs.Records.{field_length}
 use Rattle.wire.proofs.Laying.{part_laid}
-use Rattle.wire.proofs.Texts.{good_lengths, laid_none, laid_here, laid_more, laid_all}
+use Rattle.wire.proofs.Texts.{good_lengths, laid_here, laid_more, laid_all}
 use Rattle.wire.proofs.write.Measured.put_arguments.Goals as goal
 use Rattle.wire.proofs.write.Measured.put_arguments.Goals.{In-loop-argument}
 
@@ -14,9 +14,6 @@ fits c =
     let n = good_lengths c.args.self.now.msg.text.now c.args.self.now.msg.args.now c.args.self.now.good in
     let h = (laid_here _ _ _ _ _ _ c.loop-argument.invariant (Int (pos 0)) (omega arith)).1 in
     (omega arith, omega arith)
-
-pub loop-argument-init : goal.loop-argument-init
-loop-argument-init c = laid_none _ _ _ c.args.self.now.good
 
 pub slice_bounds-put_argument-count : goal.slice_bounds-put_argument-count
 slice_bounds-put_argument-count c = let f = fits (goal.at.slice_bounds-put_argument-count c).In-loop-argument in omega (arith, f.0)
