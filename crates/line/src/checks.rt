@@ -25,7 +25,7 @@ pub(crate) fn check_send(window: usize, shut: u32, bytes: usize, fds: usize) -> 
     Ok(())
 }
 
-// Whether a line gives anything to one who has room for so many bytes and duplicates.
+// Whether a line gives anything to one who has room for so many bytes and duplicates: the numbers of `receive_refusal`.
 pub(crate) fn check_receive(
     waiting: usize,
     shut: u32,

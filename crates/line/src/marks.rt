@@ -95,6 +95,7 @@ impl Marks {
     pub(crate) fn fds_at(&self, place: usize) -> usize
         ensures { result ≡ slice_index self.now place }
     {
+        // what is left of the way, mark by mark: a mark is many bytes
         let mut left = place;
         for mark in self.marks.iter() {
             if left < mark.gap {

@@ -1,4 +1,4 @@
-// What can be seen of a line: how many cells wait, how many bytes it would take now, and the code it was shut with, 0 while it is open.
+// What can be seen of a line: how many cells wait, how many bytes it would take now, and the code it was shut with, 0 while it is open, as its meaning fixes it.
 #[derive(Clone, Copy, Debug, PartialEq, Eq)]
 pub struct LineView {
     pub waiting: usize,

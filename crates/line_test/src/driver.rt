@@ -7,6 +7,7 @@ use std::test::*;
 // Stands in the buffers of a receive where nothing was written.
 const BLANK: u8 = 0xff;
 
+// The places are of the type that a line fills, so that none can be an Option.
 const NO_FD: OwnedFd = OwnedFd(u32::MAX);
 
 // The byte at a place of the stream that is sent: its period has no factor in common with a ring's size.
@@ -78,6 +79,7 @@ impl<L: Line + Hosted> Driver<L> {
         let fds = fds.min(29);
         let n = self.line.send(&stream[..bytes.min(4097)], &numbers[..fds])?;
         for fd in &numbers[..fds] {
+            // the cast keeps the number
             if let Some(carrier) = self.carriers.get_mut(fd.0 as usize) {
                 *carrier = self.bytes_in;
             }
@@ -119,7 +121,7 @@ impl<L: Line + Hosted> Driver<L> {
         self.bytes_out = self.bytes_out.wrapping_add(n);
     }
 
-    // The first k duplicates are the next ones, the bytes that carry them have come out, and the next one does not.
+    // As `take_bytes`, but for what is expected: the first k duplicates are the next ones, the bytes that carry them have come out, and the next one does not.
     fn take_fds(&mut self, rt: &impl Abort, fds: &[OwnedFd], k: usize) {
         let step = self.step;
         let (given, behind) = fds.split_at(k.min(fds.len()));
@@ -152,6 +154,7 @@ impl<L: Line + Hosted> Driver<L> {
     // Sends so many bytes, and receives where the line takes no more, until it has taken all.
     fn carry(&mut self, rt: &impl Abort, mut bytes: usize, mut fds: usize) -> Result<(), Fail> {
         let step = self.step;
+        // a bound, so that a line that is wrong ends the test
         for _ in 0..10_000 {
             // a line that takes no more is no failure here, so `?` does not do
             match self.send(bytes, fds) {
@@ -174,6 +177,7 @@ impl<L: Line + Hosted> Driver<L> {
     // Receives until nothing waits; answers the last refusal.
     fn drain(&mut self, rt: &impl Abort) -> Result<Refusal, Fail> {
         let step = self.step;
+        // a bound, so that a line that is wrong ends the test
         for _ in 0..10_000 {
             if let Err(why) = self.receive(rt, 300, 28) {
                 assert_eq!(rt;

@@ -100,6 +100,7 @@ pub fn check_for_signature<Fd>(
     if signature.len() != args.len() {
         return Err(Refusal::Mismatch(255));
     }
+    // a place found is the refusal here, so no `ok_or`
     match first_unlike(signature, args) {
         Some(place) => Err(Refusal::Mismatch(place)),
         None => Ok(()),

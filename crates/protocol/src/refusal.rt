@@ -53,7 +53,7 @@ impl Refusal {
         }
     }
 
-    // The place or the code that a refusal carries, else 0. The cast widens: there is no `usize::from` of a `u32`.
+    // The place or the code that a refusal carries, else 0: records of calls give it beside the number. The cast widens: there is no `usize::from` of a `u32`.
     pub fn value(self) -> usize
         ensures { result ≡ value_of self }
     {

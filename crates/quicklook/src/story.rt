@@ -27,7 +27,7 @@ const FILL: u8 = 0xa5;
 
 const ROOM: usize = 256;
 
-// Stands where no duplicate has been put yet: no book has this number.
+// Stands where no duplicate has been put yet: no book has this number. The places are of the type that a write fills, so no Option.
 const NO_FD: OwnedFd = OwnedFd(u32::MAX);
 
 // The picture of the story, by the mark of its file.
@@ -154,7 +154,7 @@ impl<P: Print> Link<'_, P> {
         Ok(size)
     }
 
-    // The screen looks before the last byte of the frame has come.
+    // The screen looks before the last byte of the frame has come. It begins as `receive` does, and shows the refusal.
     fn receive_early(&self, frame: &[u8], duplicates: &[OwnedFd]) -> Result<(), Fault> {
         let early = &frame[0..frame.len().saturating_sub(1)];
         let types = self.signature.types();

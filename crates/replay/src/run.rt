@@ -13,6 +13,7 @@ use protocol::{Argument, Header, Message, OwnedFd, RawFd, Refusal, check_for_sig
 use std::alloc::{AllocError, Global};
 use wire::{ArgumentView, parse_message, write_to_buffers};
 
+// How many descriptors arguments have; what wire counts are types.
 fn fd_count(arguments: &[Argument<RawFd>]) -> usize {
     arguments
         .iter()
@@ -147,6 +148,7 @@ impl Session {
 
     // Duplicates that stand for the marks: a number that arrives belongs to the end from the start.
     fn arrive(&mut self, marks: &[u64], fds: &mut Vec<OwnedFd>) -> Result<(), Fault> {
+        // one by one into `fds`: what was opened before a refusal has to be closed
         for mark in marks {
             let fd = self.book.open(*mark)?;
             fds.push(OwnedFd(fd.0))?;
