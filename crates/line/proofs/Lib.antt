@@ -1,3 +1,4 @@
+mod Bounding
 mod Counting
 mod Marking
 mod Most

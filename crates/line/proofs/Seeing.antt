@@ -40,7 +40,7 @@ seen_later (x ∷ bs) fds zero b e z = absurd (z refl)
 seen_later (x ∷ bs) fds (suc place) b e z = seen_plain bs place b e
 
 -- no cell has more than d duplicates, and so after a send
-few_plain : (d : ℕ) (bs : List ℕ) → EachFew d (cells_of bs [])
+pub few_plain : (d : ℕ) (bs : List ℕ) → EachFew d (cells_of bs [])
 few_plain d [] = tt
 few_plain d (b ∷ bs) = (omega arith, few_plain d bs)
 

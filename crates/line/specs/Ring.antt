@@ -21,3 +21,7 @@ ring_choices lim = record { window = ring_window lim; gives = ring_gives lim }
 abbrev pub GivesMost : Limits → List Cell → ℕ → Result (ℕ × ℕ) Refusal → Type 0
 GivesMost lim cells asked (Ok p) = (n : ℕ) → MayGive lim cells asked n → n ≤ p.0
 GivesMost lim cells asked (Err why) = Unit {0}
+
+-- what holds of the cells of any ring: no more than it has places for, and so their duplicates
+abbrev pub RingBound : List Cell → Type 0
+RingBound cells = (length cells ≤ ring_bytes) × (length (fds_of cells) ≤ ring_fds)

@@ -11,3 +11,7 @@ stored_state {store = store} line = state_by store.choices (store.cells line.sto
 
 pub stored_few : {S : Type 0} {store : Ghosts S} → (line : Stored S store) → EachFew limits.descriptors (stored_state line).cells
 stored_few line = line.few
+
+-- what the kind promises of the cells that wait, whatever came before: `RingBound` of a ring, `ParcelBound` of a parcel line
+pub stored_bound : {S : Type 0} {store : Ghosts S} → (line : Stored S store) → store.bound (stored_state line).cells
+stored_bound line = line.bounded

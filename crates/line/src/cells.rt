@@ -1,5 +1,6 @@
 ghost use Rattle.protocol.specs.Limits.{limits};
-ghost use Rattle.line.specs.Ring.{ring_choices, GivesMost};
+ghost use Rattle.line.specs.Bounds.{RingBound-prop};
+ghost use Rattle.line.specs.Ring.{ring_choices, GivesMost, RingBound};
 
 use crate::marks::Marks;
 use crate::queue::Queue;
@@ -36,6 +37,10 @@ impl Store for Cells {
     ghost choices = { ring_choices limits };
 
     ghost most = { GivesMost limits };
+
+    ghost bound = { RingBound };
+
+    ghost bound_once = { RingBound-prop };
 
     fn new() -> Cells {
         Cells {

@@ -1,5 +1,6 @@
 ghost use Rattle.protocol.specs.Limits.{limits};
-ghost use Rattle.line.specs.Parcel.{parcel_choices};
+ghost use Rattle.line.specs.Bounds.{ParcelBound-prop};
+ghost use Rattle.line.specs.Parcel.{parcel_choices, ParcelBound};
 
 use crate::queue::Queue;
 use crate::share::Share;
@@ -38,6 +39,10 @@ impl Store for Held {
 
     // nothing: its choices say all
     ghost most = { λ cells asked answer. Unit {0} };
+
+    ghost bound = { ParcelBound limits };
+
+    ghost bound_once = { ParcelBound-prop limits };
 
     fn new() -> Held {
         Held {

@@ -80,7 +80,8 @@ impl<T: Copy, const N: usize> Queue<T, N> {
     #[tactic(auto, using(crate::proofs::Queues::length_held, crate::proofs::Queues::queued_on))]
     pub(crate) fn put(&mut self, new: &[T])
         requires { length self.old + length new.now ≤ N }
-        ensures { self.new ≡ self.old ++ new.now }
+        ensures after { self.new ≡ self.old ++ new.now }
+        ensures within { length self.new ≤ N }
     {
         let tail = slot(N, self.head, self.len);
         write_around(&mut self.slots, tail, new);
@@ -92,6 +93,7 @@ impl<T: Copy, const N: usize> Queue<T, N> {
         requires { length out.old ≤ length self.old }
         ensures taken { out.new ≡ take (length out.old) self.old }
         ensures left { self.new ≡ drop (length out.old) self.old }
+        ensures within { length self.new ≤ N }
     {
         let n = out.len();
         let (near, far) = self.parts();
@@ -104,7 +106,8 @@ impl<T: Copy, const N: usize> Queue<T, N> {
     #[tactic(auto, using(crate::proofs::Queues::length_held, crate::proofs::Queues::held_rest))]
     pub(crate) fn remove_first(&mut self, n: usize)
         requires { n ≤ length self.old }
-        ensures { self.new ≡ drop n self.old }
+        ensures left { self.new ≡ drop n self.old }
+        ensures within { length self.new ≤ N }
     {
         self.head = slot(N, self.head, n);
         self.len -= n;

@@ -16,6 +16,7 @@ pub struct Stored<S: Store> {
     // 0 while it is open: the meaning of a line fixes this number, so it is no `Option`
     shut: u32,
     ghost few: { EachFew limits.descriptors (S.cells store) } by { EachFew-prop limits.descriptors (S.cells store) },
+    ghost bounded: { S.bound (S.cells store) } by { S.bound_once (S.cells store) },
 }
 
 impl<S: Store> Stored<S> {

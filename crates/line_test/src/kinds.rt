@@ -1,10 +1,10 @@
 // What a user of each kind of line may lean on, in the words of the kind: the contracts of `Stored` at its two stores.
 // A function for each kind, since a clause in the words of one says nothing of the other.
 
-ghost use Rattle.std.specs.Prelude.{◌≡◌, [], length};
+ghost use Rattle.std.specs.Prelude.{◌≡◌, ◌≤◌, [], length};
 ghost use Rattle.protocol.specs.Limits.{limits};
 ghost use Rattle.line.specs.Choices.{SentBy, ReceivedBy, shut_with, state_by};
-ghost use Rattle.line.specs.Line.{Between, Sent, Received};
+ghost use Rattle.line.specs.Line.{Between, Sent, Received, fds_of};
 ghost use Rattle.line.specs.Parcel.{parcel_choices};
 ghost use Rattle.line.specs.ParcelView.{parcel_state};
 ghost use Rattle.line.specs.Ring.{ring_choices, GivesMost};
@@ -99,4 +99,42 @@ fn shut_parcel(parcel: &mut Parcel, code: u32)
     ensures between { Between (parcel_state parcel.old) (parcel_state parcel.new) }
 {
     parcel.shut(code);
+}
+
+// What holds of any line of a kind, whatever came before.
+
+fn waiting_in_ring(ring: &Ring) -> usize
+    ensures { result ≤ 8192 }
+{
+    ring.view().waiting
+}
+
+// The duplicates on all cells.
+fn fds_in_ring(ring: &Ring) -> usize
+    ensures all { result ≡ length (fds_of (ring_state ring.now).cells) }
+    ensures within { result ≤ 512 }
+{
+    let mut fds = 0;
+    for place in 0..ring.view().waiting {
+        if let Some(cell) = ring.cell(place) {
+            fds += cell.fds;
+        }
+    }
+    fds
+}
+
+fn waiting_in_parcel(parcel: &Parcel) -> usize
+    ensures { result ≤ 4096 }
+{
+    parcel.view().waiting
+}
+
+// No cell but the first carries duplicates.
+fn second_of_parcel(parcel: &Parcel) -> usize
+    ensures { result ≡ 0 }
+{
+    match parcel.cell(1) {
+        Some(cell) => cell.fds,
+        None => 0,
+    }
 }

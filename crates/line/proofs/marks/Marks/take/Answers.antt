@@ -21,7 +21,7 @@ returns-then-wanted-mark c =
 pub loop-mark-preserved : goal.loop-mark-preserved
 loop-mark-preserved c =
     passed limits.descriptors c.args.asked c.args.self.now c.loop-mark.self-inside.marks c.loop-mark.self-inside.tail c.loop-mark.share.bytes c.loop-mark.share.fds c.loop-mark.invariant
-    c.in-Some.mark (sym c.get.ensures ∙ c.in-Some.is) c.remove_first.new.self c.remove_first.ensures (omega (arith, c.if-wanted-mark.false)) (omega (arith, c.if-share-mark.false))
+    c.in-Some.mark (sym c.get.ensures ∙ c.in-Some.is) c.remove_first.new.self c.remove_first.ensures.left (omega (arith, c.if-wanted-mark.false)) (omega (arith, c.if-share-mark.false))
 
 pub returns : goal.returns
 returns c =
