@@ -2,7 +2,7 @@ ghost use Rattle.protocol.specs.Limits.{limits};
 ghost use Rattle.line.specs.Bounds.{ParcelBound-prop};
 ghost use Rattle.line.specs.Parcel.{parcel_choices, ParcelBound};
 
-use crate::queue::Queue;
+use crate::batch::Batch;
 use crate::share::Share;
 use crate::store::Store;
 use crate::view::CellView;
@@ -17,8 +17,8 @@ const SEND_FDS: usize = LIMITS.descriptors;
 // What is alike in `Cells` is calls of its queues: a type for both pairs would pass the same calls on.
 #[derive(Drop)]
 pub struct Held {
-    bytes: Queue<u8, SEND_BYTES>,
-    fds: Queue<OwnedFd, SEND_FDS>,
+    bytes: Batch<u8, SEND_BYTES>,
+    fds: Batch<OwnedFd, SEND_FDS>,
 }
 
 impl Model for Held {
@@ -46,8 +46,8 @@ impl Store for Held {
 
     fn new() -> Held {
         Held {
-            bytes: Queue::new(0),
-            fds: Queue::new(OwnedFd(0)),
+            bytes: Batch::new(0),
+            fds: Batch::new(OwnedFd(0)),
         }
     }
 
@@ -70,13 +70,13 @@ impl Store for Held {
 
     // The first cell.
     fn give(&mut self, bytes: &mut [u8], fds: &mut [OwnedFd]) -> Share {
-        let share = Share {
+        bytes[0] = self.bytes.take_first();
+        let carried = self.fds.len();
+        self.fds.take_all(&mut fds[..carried]);
+        Share {
             bytes: 1,
-            fds: self.fds.len(),
-        };
-        self.bytes.take(&mut bytes[..share.bytes]);
-        self.fds.take(&mut fds[..share.fds]);
-        share
+            fds: carried,
+        }
     }
 
     #[tactic(auto, using(crate::proofs::Seeing::length_cells, crate::proofs::Seeing::past, crate::proofs::Seeing::seen_past, crate::proofs::Seeing::seen_first, crate::proofs::Seeing::seen_later))]

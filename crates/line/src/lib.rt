@@ -1,5 +1,6 @@
 #![tactic(auto)]
 
+mod batch;
 mod cells;
 mod checks;
 mod held;
