@@ -5,6 +5,9 @@ ghost use Rattle.wire.specs.Records.{block_length, field_length, number_of};
 
 use protocol::Argument;
 
+// So many bytes are enough for a search over groups of them.
+const FEW: usize = 8;
+
 // How many bytes n lacks to a multiple of 4.
 pub fn padding_len(n: usize) -> usize
     ensures { result ≡ padding n }
@@ -41,8 +44,12 @@ pub(crate) fn fd_of<Fd: Copy>(argument: &Argument<Fd>) -> Option<Fd>
     }
 }
 
+// A few bytes are walked over: `contains` sets up for many.
 pub(crate) fn no_zero(bytes: &[u8]) -> bool
     ensures { result ≡ no_zero bytes.now }
 {
+    if bytes.len() < FEW {
+        return bytes.iter().all(|byte| *byte != 0);
+    }
     !bytes.contains(&0)
 }

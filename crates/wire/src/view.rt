@@ -22,7 +22,7 @@ pub enum ArgumentView<'f> {
 pub(crate) fn part(bytes: &[u8], text: Text) -> Option<&[u8]>
     ensures { option_map (λ x. x.now) result ≡ part_of bytes.now text }
 {
-    bytes.get(text.place..text.place.checked_add(text.len)?)
+    bytes.get(text.place..)?.get(..text.len)
 }
 
 impl<'f> ArgumentView<'f> {

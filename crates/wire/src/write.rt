@@ -108,8 +108,8 @@ fn put_argument(out: &mut [u8], argument: &Argument<RawFd>, text: &[u8])
         Argument::Int(n) | Argument::Fixed(n) => put_word(out, n.cast_unsigned()),
         Argument::Uint(n) | Argument::Object(n) | Argument::NewId(n) => put_word(out, *n),
         Argument::NullStr => put_word(out, 0),
-        Argument::Str(t) => put_block(out, part(text, *t).unwrap(), &[0]),
-        Argument::Array(t) => put_block(out, part(text, *t).unwrap(), &[]),
+        Argument::Str(t) => put_block(out, &text[t.place..t.place + t.len], &[0]),
+        Argument::Array(t) => put_block(out, &text[t.place..t.place + t.len], &[]),
         Argument::Fd(_) => {}
     }
 }
