@@ -1,5 +1,5 @@
 // The words of a line: numbers, bytes in hex, signatures and arguments.
-ghost use Rattle.std.specs.Prelude.{◌≡◌, ◌+◌, ◌<◌, IfOk, vec_len};
+ghost use Rattle.std.specs.Prelude.{◌≡◌, ◌+◌, ◌<◌, ◌≤◌, IfOk, vec_len};
 
 use crate::fault::Fault;
 use protocol::{Argument, RawFd, Text};
@@ -7,6 +7,9 @@ use signature::{Notation, Signature};
 use std::alloc::{AllocError, Global};
 use std::num::ParseIntError;
 use std::str::{FromStr, SplitWhitespace};
+
+// Repeated bytes that are fewer are doubled before they are appended.
+const CHUNK: usize = 4096;
 
 // By hand: the library's `to_digit(16)` takes capitals too.
 fn hex_digit(digit: u8) -> Result<u8, Fault>
@@ -24,6 +27,34 @@ fn hex_byte(digits: &[u8]) -> Result<u8, Fault> {
         return Err(Fault::BadLine);
     };
     Ok((hex_digit(*high)? << 4) | hex_digit(*low)?)
+}
+
+fn add_digits(bytes: &mut Vec<u8>, digits: &str) -> Result<(), Fault>
+    ensures { vec_len bytes.old ≤ vec_len bytes.new }
+{
+    for pair in digits.as_bytes().chunks(2) {
+        bytes.push(hex_byte(pair)?)?;
+    }
+    Ok(())
+}
+
+// Adds `once` so many times.
+fn add_repeated(bytes: &mut Vec<u8>, mut once: Vec<u8>, mut count: usize) -> Result<(), AllocError>
+    ensures { vec_len bytes.old ≤ vec_len bytes.new }
+{
+    bytes.reserve(once.len().checked_mul(count).ok_or(AllocError)?)?;
+    // Twice the bytes half as often: a call for each byte would take long.
+    while once.len() < CHUNK && count > 1 {
+        if count % 2 == 1 {
+            bytes.extend_from_slice(once.as_slice())?;
+        }
+        once.extend_from_within(..)?;
+        count /= 2;
+    }
+    for _ in 0..count {
+        bytes.extend_from_slice(once.as_slice())?;
+    }
+    Ok(())
 }
 
 // `-` stands for an empty text.
@@ -61,7 +92,9 @@ impl<'a> Words<'a> {
 
     pub(crate) fn bytes(&mut self) -> Result<Vec<u8>, Fault> {
         let word = self.word()?;
-        self.bytes_of(word)
+        let mut bytes = Vec::new(self.heap);
+        self.add_bytes(&mut bytes, word)?;
+        Ok(bytes)
     }
 
     // The types that libwayland's letters say.
@@ -80,30 +113,26 @@ impl<'a> Words<'a> {
             .try_collect(self.heap)
     }
 
-    // The bytes of parts joined by `+`.
-    fn bytes_of(&self, word: &str) -> Result<Vec<u8>, Fault> {
-        let mut bytes = Vec::new(self.heap);
+    // Adds the bytes of parts joined by `+`.
+    fn add_bytes(&self, bytes: &mut Vec<u8>, word: &str) -> Result<(), Fault>
+        ensures { vec_len bytes.old ≤ vec_len bytes.new }
+    {
         for part in unless_dash(word).split('+') {
-            bytes.extend_from_slice(self.bytes_of_part(part)?.as_slice())?;
+            self.add_part(bytes, part)?;
         }
-        Ok(bytes)
+        Ok(())
     }
 
     // `61`, or `61*5` for five times these bytes.
-    fn bytes_of_part(&self, part: &str) -> Result<Vec<u8>, Fault> {
+    fn add_part(&self, bytes: &mut Vec<u8>, part: &str) -> Result<(), Fault>
+        ensures { vec_len bytes.old ≤ vec_len bytes.new }
+    {
         let Some((digits, count)) = part.split_once('*') else {
-            return self.bytes_of_digits(part);
+            return add_digits(bytes, part);
         };
-        let once = self.bytes_of_digits(digits)?;
-        Ok(once.repeat(self.heap, count.parse::<usize>()?)?)
-    }
-
-    fn bytes_of_digits(&self, digits: &str) -> Result<Vec<u8>, Fault> {
-        digits
-            .as_bytes()
-            .chunks(2)
-            .map(hex_byte)
-            .try_collect(self.heap)
+        let mut once = Vec::new(self.heap);
+        add_digits(&mut once, digits)?;
+        Ok(add_repeated(bytes, once, count.parse::<usize>()?)?)
     }
 }
 
@@ -139,24 +168,22 @@ impl Arguments {
             "i" => Ok(Argument::Int(value.parse::<i32>()?)),
             "u" => Ok(Argument::Uint(value.parse::<u32>()?)),
             "f" => Ok(Argument::Fixed(value.parse::<i32>()?)),
-            "s" => Ok(Argument::Str(self.add_text(words.bytes_of(value)?.as_slice())?)),
+            "s" => Ok(Argument::Str(self.add_text(words, value)?)),
             "o" => Ok(Argument::Object(value.parse::<u32>()?)),
             "n" => Ok(Argument::NewId(value.parse::<u32>()?)),
-            "a" => Ok(Argument::Array(self.add_text(words.bytes_of(value)?.as_slice())?)),
+            "a" => Ok(Argument::Array(self.add_text(words, value)?)),
             "h" => Ok(Argument::Fd(RawFd(value.parse::<u32>()?))),
             _ => Err(Fault::BadLine),
         }
     }
 
-    // The place of some bytes, which go to the end of the text.
-    fn add_text(&mut self, bytes: &[u8]) -> Result<Text, AllocError>
+    // The place of a word's bytes, which go to the end of the text.
+    fn add_text(&mut self, words: &Words, word: &str) -> Result<Text, Fault>
         ensures { IfOk result (λ t. (t.place ≡ vec_len self.old.text) × (t.place + t.len ≡ vec_len self.new.text)) }
     {
         let place = self.text.len();
-        self.text.extend_from_slice(bytes)?;
-        Ok(Text {
-            place,
-            len: bytes.len(),
-        })
+        words.add_bytes(&mut self.text, word)?;
+        let len = self.text.len() - place;
+        Ok(Text { place, len })
     }
 }
