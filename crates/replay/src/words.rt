@@ -29,6 +29,7 @@ fn hex_byte(digits: &[u8]) -> Result<u8, Fault> {
     Ok((hex_digit(*high)? << 4) | hex_digit(*low)?)
 }
 
+// A loop and no `try_collect`, so that the bytes are held once.
 fn add_digits(bytes: &mut Vec<u8>, digits: &str) -> Result<(), Fault>
     ensures { vec_len bytes.old ≤ vec_len bytes.new }
 {
