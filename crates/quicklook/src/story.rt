@@ -98,7 +98,7 @@ const UNWRITTEN: Buffers = Buffers {
 #[derive(Drop)]
 struct Link<'r, P> {
     rt: &'r P,
-    book: Book,
+    book: &'r mut Book,
     signature: Signature,
 }
 
@@ -106,24 +106,24 @@ impl<P: Print> Link<'_, P> {
     fn printer(&self) -> Printer<'_, P> {
         Printer {
             rt: self.rt,
-            book: &self.book,
+            book: self.book,
         }
     }
 
     // The queue tries to send a label that has a byte 0 in it.
     fn send_bad_label(&mut self, draft: &Draft) -> Result<(), Fault> {
         let mut buffers = UNWRITTEN;
-        let before = open_numbers(&self.book);
+        let before = open_numbers(self.book);
         let written = write_to_buffers(
             &draft.message(SCREEN, SHOW),
             &mut buffers.payload,
             &mut buffers.places,
-            &mut self.book,
+            self.book,
         );
         let Err(why) = written else {
             return Err(Fault::NotRefused);
         };
-        let after = open_numbers(&self.book);
+        let after = open_numbers(self.book);
         let stays = if buffers.payload == UNWRITTEN.payload {
             "as it was"
         } else {
@@ -146,7 +146,7 @@ impl<P: Print> Link<'_, P> {
             &message,
             &mut buffers.payload,
             &mut buffers.places,
-            &mut self.book,
+            self.book,
         )?;
         println!(self.rt; "\nqueue, the arguments fit the signature: a frame of {size} bytes")?;
         print_frame(self.rt, &buffers.payload[0..size], &NAMES, message.args)?;
@@ -199,7 +199,7 @@ pub(crate) fn tell(rt: &HostRuntime) -> Result<(), Fault> {
     let signature = signature_of_show(rt)?;
     let mut link = Link {
         rt,
-        book,
+        book: &mut book,
         signature,
     };
     let bad = draft_of(rt.alloc(), &labelled(b"NGC 7000\0east", picture))?;
@@ -213,7 +213,7 @@ pub(crate) fn tell(rt: &HostRuntime) -> Result<(), Fault> {
     link.compare_marks(arrived)?;
     link.book.close(arrived)?;
     link.book.close(picture)?;
-    let left = open_numbers(&link.book);
+    let left = open_numbers(link.book);
     println!(rt; "\nbook: all is closed, numbers open: {left}")?;
     Ok(())
 }
