@@ -98,12 +98,11 @@ impl Marks {
         // what is left of the way, mark by mark: a mark is many bytes
         let mut left = place;
         for mark in self.marks.iter() {
-            // one test for each mark that is passed
-            if left <= mark.gap {
-                if left == mark.gap {
-                    return mark.fds;
-                }
+            if left < mark.gap {
                 return 0;
+            }
+            if left == mark.gap {
+                return mark.fds;
             }
             left -= mark.gap + 1;
         }

@@ -22,7 +22,7 @@ loop-mark-init c = (
 pub returns-then-left-mark : goal.returns-then-left-mark
 returns-then-left-mark c =
     let n = yielded_some (given.iterator-loop-mark).next_gives (λ x. x.now) _ _ c.in-Some.mark c.loop-mark.invariant.2.0 c.loop-mark.invariant.2.2 c.in-Some.ensures.steps in
-    sym (c.loop-mark.invariant.2.3 ∙ ap (λ (y : List Mark). get_or (counts y c.loop-mark.invariant.2.1) c.loop-mark.left 0) n.1 ∙ sym (at_gap c.in-Some.mark.now n.0 c.loop-mark.invariant.2.1 c.loop-mark.left (omega (arith, c.if-left-mark.true, c.if-left-mark-2.false))))
+    sym (c.loop-mark.invariant.2.3 ∙ ap (λ (y : List Mark). get_or (counts y c.loop-mark.invariant.2.1) c.loop-mark.left 0) n.1 ∙ sym (at_gap c.in-Some.mark.now n.0 c.loop-mark.invariant.2.1 c.loop-mark.left c.if-left-mark.true))
 
 pub returns-then-left-mark-2 : goal.returns-then-left-mark-2
 returns-then-left-mark-2 c =
@@ -39,7 +39,7 @@ loop-mark-preserved c =
         c.loop-mark.invariant.2.1,
         n.2,
         c.loop-mark.invariant.2.3 ∙ ap (λ (y : List Mark). get_or (counts y c.loop-mark.invariant.2.1) c.loop-mark.left 0) n.1
-            ∙ at_rest c.in-Some.mark.now n.0 c.loop-mark.invariant.2.1 c.loop-mark.left (omega (arith, c.if-left-mark.false)),
+            ∙ at_rest c.in-Some.mark.now n.0 c.loop-mark.invariant.2.1 c.loop-mark.left (omega (arith, c.if-left-mark.false, c.if-left-mark-2.false)),
       ),
     )
 
