@@ -14,7 +14,7 @@ const SEND_BYTES: usize = LIMITS.bytes;
 const SEND_FDS: usize = LIMITS.descriptors;
 
 // The cells that wait in a parcel line: bytes of one send, with the duplicates on the first of them.
-// What is alike in `Cells` is calls of its queues: a type for both pairs would pass the same calls on.
+// What is alike in `Cells` is calls of what keeps the items: a type for both pairs would pass the same calls on.
 #[derive(Drop)]
 pub struct Held {
     bytes: Batch<u8, SEND_BYTES>,

@@ -129,7 +129,7 @@ fn waiting_in_parcel(parcel: &Parcel) -> usize
     parcel.view().waiting
 }
 
-// No cell but the first carries duplicates.
+// The second cell carries no duplicates.
 fn second_of_parcel(parcel: &Parcel) -> usize
     ensures { result ≡ 0 }
 {

@@ -8,7 +8,7 @@ use std::alloc::{AllocError, Global};
 use std::num::ParseIntError;
 use std::str::{FromStr, SplitWhitespace};
 
-// Repeated bytes that are fewer are doubled before they are appended.
+// Bytes to repeat are doubled until they are at least this many.
 const CHUNK: usize = 4096;
 
 // By hand: the library's `to_digit(16)` takes capitals too.
@@ -39,11 +39,27 @@ fn add_digits(bytes: &mut Vec<u8>, digits: &str) -> Result<(), Fault>
     Ok(())
 }
 
-// Adds `once` so many times.
+// Room for `whole` bytes, as much as parts of `len` bytes make that are appended one by one: it doubles, so that bytes behind them find room too.
+fn make_room(bytes: &mut Vec<u8>, len: usize, whole: usize) -> Result<(), AllocError>
+    ensures { vec_len bytes.new ≡ vec_len bytes.old }
+{
+    bytes.reserve(len)?;
+    let mut room = bytes.capacity();
+    for _ in 0..usize::BITS {
+        if room < whole {
+            room = room.saturating_mul(2);
+        }
+    }
+    bytes.reserve(room.saturating_sub(bytes.len()))
+}
+
+// Adds `once` so many times. A count that is too large ends before anything is added.
 fn add_repeated(bytes: &mut Vec<u8>, mut once: Vec<u8>, mut count: usize) -> Result<(), AllocError>
     ensures { vec_len bytes.old ≤ vec_len bytes.new }
 {
-    bytes.reserve(once.len().checked_mul(count).ok_or(AllocError)?)?;
+    let more = once.len().checked_mul(count).ok_or(AllocError)?;
+    let whole = bytes.len().checked_add(more).ok_or(AllocError)?;
+    make_room(bytes, once.len().min(more), whole)?;
     // Twice the bytes half as often: a call for each byte would take long.
     while once.len() < CHUNK && count > 1 {
         if count % 2 == 1 {
